@@ -6,3 +6,4 @@ pub mod Finite
 pub mod Readings
 pub mod Order
 pub mod StarredCases
+pub mod RangeKept

@@ -1,1 +1,6 @@
+pub mod Lowest
 pub mod Planning
+pub mod Stores
+pub mod Viewing
+pub mod Stepping
+pub mod Exits

@@ -75,7 +75,7 @@ no-bad false false s k a e p q = refl
 
 -- ---- small laws
 
-word-back : (r : Mem) (io : Bool) (a v : ℕ) → fitted r (io, a) ≡ true → word-at (with-word r (io, a) v) (io, a) ≡ v
+pub word-back : (r : Mem) (io : Bool) (a v : ℕ) → fitted r (io, a) ≡ true → word-at (with-word r (io, a) v) (io, a) ≡ v
 unfolding word-at with-word fitted
 word-back r true a v h = getD-set-same (r .ports) a v 0 (ltb-true a (length (r .ports)) h)
 word-back r false a v h = getD-set-same (r .main) a v 0 (ltb-true a (length (r .main)) h)

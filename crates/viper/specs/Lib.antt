@@ -1,1 +1,10 @@
 pub mod Phases
+pub mod Finishing
+pub mod Refusals
+pub mod Operations
+pub mod Runs
+pub mod TakingBack
+pub mod Views
+pub mod Told
+pub mod Judging
+pub mod Noting

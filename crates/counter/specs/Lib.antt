@@ -1,0 +1,4 @@
+pub mod Lines
+pub mod Placed
+pub mod Routine
+pub mod Text

@@ -1,0 +1,106 @@
+-- How many bytes numbers and records take: a number has as many groups as hold it, and a record's length is the sum of its numbers' and 1.
+-- Assumes nothing.
+use Prim.Native.Nat.{ℕ, zero, suc, _+_, _*_, _/_, _^_, _<_, _≤_}
+use mathlib.Core.Path.{_≡_, refl}
+use mathlib.Core.Bool.{Bool, true, false}
+use native.Mathlib.Omega.{arith}
+use lib.Dec.{ltb}
+use lib.ListN.{length, length-append}
+use borrow.Author.Tests.{ltb-true, ltb-false, eq-eqb}
+use Rattle.report.specs.AnnexA.{BV}
+use Rattle.machine.specs.declared.Machine.{Machine}
+use Rattle.trail.specs.declared.OldValues.{OldValues}
+use Rattle.trail.specs.declared.Word.{Word}
+use Rattle.trail.specs.Numbers.{groups, bytes-if, GoodIf}
+use Rattle.trail.specs.Records.{marked, body, record-bytes, Good, differs, word-changed, old-values}
+use Rattle.trail.proofs.NumbersReadBack.{cap, groups-one, groups-more}
+use Rattle.trail.proofs.Marks.{bit, marks, Sound, old-values-good}
+
+-- A number has at least one byte, and below the cap of k at most k + 1.
+pub groups-some : (n : ℕ) → 1 ≤ length (groups n)
+groups-some n = go (ltb n 128) refl
+  where
+    go : (t : Bool) → ltb n 128 ≡ t → 1 ≤ length (groups n)
+    go true e = rw (groups-one n (ltb-true n 128 e)) (omega arith)
+    go false e = rw (groups-more n (ltb-false n 128 e)) (omega arith)
+
+pub groups-few : (k n : ℕ) → n < cap k → length (groups n) ≤ k + 1
+groups-few zero n h = rw (groups-one n h) (omega arith)
+groups-few (suc k) n h = go (ltb n 128) refl (groups-few k (n / 128))
+  where
+    go : (t : Bool) → ltb n 128 ≡ t → (n / 128 < cap k → length (groups (n / 128)) ≤ k + 1) → length (groups n) ≤ suc k + 1
+    go true e ih = rw (groups-one n (ltb-true n 128 e)) (omega arith)
+    go false e ih = rw (groups-more n (ltb-false n 128 e)) (omega (arith, ltb-false n 128 e, ih (omega (arith, ltb-false n 128 e))))
+
+-- ---- the numbers of a record
+
+if-few : (t : Bool) (k bound n : ℕ) → bound ≤ cap k → GoodIf t bound n → length (bytes-if t n) ≤ (k + 1) * BV t
+if-few true k bound n h g = omega (arith, groups-few k n (omega arith))
+if-few false k bound n h g = omega arith
+
+-- The most bytes that each number of a record takes, by the marks.
+pub record Sizes (o : OldValues) : Type 0 where
+  pub marks : length (groups (o .marks)) ≤ 1
+  pub p : length (groups (o .p)) ≤ 3
+  pub a : length (bytes-if (marked 1 (o .marks)) (o .a)) ≤ 5 * BV (marked 1 (o .marks))
+  pub x : length (bytes-if (marked 2 (o .marks)) (o .x)) ≤ 5 * BV (marked 2 (o .marks))
+  pub y : length (bytes-if (marked 4 (o .marks)) (o .y)) ≤ 5 * BV (marked 4 (o .marks))
+  pub place : length (bytes-if (marked 8 (o .marks)) (o .place)) ≤ 3 * BV (marked 8 (o .marks))
+  pub value : length (bytes-if (marked 8 (o .marks)) (o .value)) ≤ 5 * BV (marked 8 (o .marks))
+  pub a-bit : BV (marked 1 (o .marks)) ≤ 1
+  pub x-bit : BV (marked 2 (o .marks)) ≤ 1
+  pub y-bit : BV (marked 4 (o .marks)) ≤ 1
+  pub word-bit : BV (marked 8 (o .marks)) ≤ 1
+
+pub sizes : {places : ℕ} {o : OldValues} → places ≤ 2 ^ 21 → Good places o → Sizes o
+sizes {places} {o} h g =
+    record {
+      marks = groups-few 0 (o .marks) (omega (arith, g .marks));
+      p = groups-few 2 (o .p) (omega (arith, g .p));
+      a = if-few (marked 1 (o .marks)) 4 (2 ^ 32) (o .a) (omega arith) (g .a);
+      x = if-few (marked 2 (o .marks)) 4 (2 ^ 32) (o .x) (omega arith) (g .x);
+      y = if-few (marked 4 (o .marks)) 4 (2 ^ 32) (o .y) (omega arith) (g .y);
+      place = if-few (marked 8 (o .marks)) 2 places (o .place) (omega arith) (g .place);
+      value = if-few (marked 8 (o .marks)) 4 (2 ^ 32) (o .value) (omega arith) (g .value);
+      a-bit = bit (marked 1 (o .marks));
+      x-bit = bit (marked 2 (o .marks));
+      y-bit = bit (marked 4 (o .marks));
+      word-bit = bit (marked 8 (o .marks));
+    }
+
+-- ---- the body and the record
+
+-- A record has 2 to 27 bytes before L.
+pub body-length : {places : ℕ} {o : OldValues} → places ≤ 2 ^ 21 → Good places o → (2 ≤ length (body o)) × (length (body o) ≤ 27)
+body-length {places} {o} h g =
+    simp length-append (
+      omega (arith, groups-some (o .marks), groups-some (o .p)),
+      omega (arith, sizes h g),
+    )
+
+-- Marks, P, five bytes for each register that is marked, eight for a word, and L.
+pub record-length : {places : ℕ} {o : OldValues} → places ≤ 2 ^ 21 → Good places o
+    → length (record-bytes o) ≤ 5 + 5 * (BV (marked 1 (o .marks)) + BV (marked 2 (o .marks)) + BV (marked 4 (o .marks))) + 8 * BV (marked 8 (o .marks))
+unfolding record-bytes
+record-length {places} {o} h g = simp length-append (omega (arith, sizes h g))
+
+-- ---- the record of an operation
+
+-- How many of A, X and Y changed.
+abbrev pub registers-changed : Machine → Machine → ℕ
+registers-changed old new = BV (differs (old .a) (new .a)) + BV (differs (old .x) (new .x)) + BV (differs (old .y) (new .y))
+
+pub registers-three : (old new : Machine) → registers-changed old new ≤ 3
+registers-three old new =
+    omega (arith, bit (differs (old .a) (new .a)), bit (differs (old .x) (new .x)), bit (differs (old .y) (new .y)))
+
+pub unchanged : {old new : ℕ} → old ≡ new → BV (differs old new) ≡ 0
+unchanged {old} {new} e = rw (eq-eqb old new e)
+
+-- So 5 bytes where nothing changed but P and the flags, 10 with one register, 13 with a word and no register, 20 with three registers and no word.
+pub old-values-length : {old : Machine} (new : Machine) {w : Word} → Sound old w
+    → length (record-bytes (old-values old new w)) ≤ 5 + 5 * registers-changed old new + 8 * BV (word-changed w)
+unfolding old-values
+old-values-length {old} new {w} s =
+    let m = marks old new w in
+    rw (m .a, m .x, m .y, m .word) at (record-length (omega arith) (old-values-good new s))

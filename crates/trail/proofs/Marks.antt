@@ -1,0 +1,90 @@
+-- The marks of an operation's record tell what changed and the old flags, since each is one bit of their sum; so its old values are such as a record can hold.
+-- Assumes nothing.
+use Prim.Native.Nat.{ℕ, _/_, _%_, _^_, _<_, _≤_}
+use mathlib.Core.Path.{_≡_, refl}
+use mathlib.Core.Bool.{Bool, true, false, cond}
+use native.Mathlib.Omega.{arith}
+use lib.Dec.{eqb}
+use borrow.Author.Tests.{eq-eqb, ne-eqb}
+use Rattle.report.specs.AnnexA.{BV}
+use Rattle.machine.specs.declared.Machine.{Machine}
+use Rattle.machine.specs.declared.Place.the-variants.{Main, Port}
+use Rattle.trail.specs.declared.Word.{Word}
+use Rattle.trail.specs.declared.Word.the-variants.{Kept, Changed}
+use Rattle.trail.specs.Numbers.{GoodIf}
+use Rattle.trail.specs.Records.{marked, differs, word-changed, word-place, word-value, marks-of, Addressed, Good, old-values}
+
+pub bit : (t : Bool) → BV t ≤ 1
+bit true = omega arith
+bit false = omega arith
+
+odd : (t : Bool) (n : ℕ) → n % 2 ≡ BV t → eqb (n % 2) 1 ≡ t
+odd true n h = eq-eqb (n % 2) 1 h
+odd false n h = ne-eqb (n % 2) 1 (omega arith)
+
+-- A, X, Y and the word are marked exactly when they changed.
+pub record Marks (old new : Machine) (w : Word) : Type 0 where
+  pub a : marked 1 (marks-of old new w) ≡ differs (old .a) (new .a)
+  pub x : marked 2 (marks-of old new w) ≡ differs (old .x) (new .x)
+  pub y : marked 4 (marks-of old new w) ≡ differs (old .y) (new .y)
+  pub word : marked 8 (marks-of old new w) ≡ word-changed w
+  pub b : marked 16 (marks-of old new w) ≡ old .b
+  pub stop : marked 32 (marks-of old new w) ≡ old .stop
+  pub few : marks-of old new w < 64
+
+pub marks : (old new : Machine) (w : Word) → Marks old new w
+marks old new w =
+    let m : ℕ = marks-of old new w in
+    let h₁ = bit (differs (old .a) (new .a)) in
+    let h₂ = bit (differs (old .x) (new .x)) in
+    let h₃ = bit (differs (old .y) (new .y)) in
+    let h₄ = bit (word-changed w) in
+    let h₅ = bit (old .b) in
+    let h₆ = bit (old .stop) in
+    record {
+      a = odd (differs (old .a) (new .a)) (m / 1) (omega arith);
+      x = odd (differs (old .x) (new .x)) (m / 2) (omega arith);
+      y = odd (differs (old .y) (new .y)) (m / 4) (omega arith);
+      word = odd (word-changed w) (m / 8) (omega arith);
+      b = odd (old .b) (m / 16) (omega arith);
+      stop = odd (old .stop) (m / 32) (omega arith);
+      few = omega arith;
+    }
+
+-- ---- the old values of an operation are such as a record can hold
+
+good-if : (t : Bool) (bound n : ℕ) → n < bound → GoodIf t bound (cond t n 0)
+good-if true bound n h = h
+good-if false bound n h = refl
+
+good-place : (w : Word) → Addressed w → GoodIf (word-changed w) (2 ^ 21) (word-place w)
+good-place Kept h = refl
+good-place (Changed (Main n) v) h = omega arith
+good-place (Changed (Port n) v) h = omega arith
+
+good-value : (w : Word) → word-value w < 2 ^ 32 → GoodIf (word-changed w) (2 ^ 32) (word-value w)
+good-value Kept h = refl
+good-value (Changed q v) h = h
+
+-- P and the address of the word that changed are below 2^20, and the registers and the word's old value below 2^32.
+pub record Sound (old : Machine) (w : Word) : Type 0 where
+  pub p : old .p < 2 ^ 20
+  pub a : old .a < 2 ^ 32
+  pub x : old .x < 2 ^ 32
+  pub y : old .y < 2 ^ 32
+  pub address : Addressed w
+  pub value : word-value w < 2 ^ 32
+
+pub old-values-good : {old : Machine} (new : Machine) {w : Word} → Sound old w → Good (2 ^ 21) (old-values old new w)
+unfolding old-values
+old-values-good {old} new {w} s =
+    let m = marks old new w in
+    record {
+      marks = m .few;
+      p = s .p;
+      a = rw (m .a) (good-if (differs (old .a) (new .a)) (2 ^ 32) (old .a) (s .a));
+      x = rw (m .x) (good-if (differs (old .x) (new .x)) (2 ^ 32) (old .x) (s .x));
+      y = rw (m .y) (good-if (differs (old .y) (new .y)) (2 ^ 32) (old .y) (s .y));
+      place = rw (m .word) (good-place w (s .address));
+      value = rw (m .word) (good-value w (s .value));
+    }

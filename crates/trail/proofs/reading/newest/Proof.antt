@@ -1,0 +1,94 @@
+-- `newest` meets its contract: the tests on L, then what `read_record` finds, then whether the word's place is fitted.
+-- Assumes nothing.
+use Prim.Native.Nat.{_-_, _^_}
+use mathlib.Core.Path.{_≡_, sym}
+use native.Mathlib.Omega.{arith}
+use borrow.Author.Needs.{needs}
+use denote.Ref.{now}
+use borrow.Author.Tests.{eq-eqb, ne-eqb, not-true, not-false}
+use Rattle.trail.specs.Newest.{newest, newest-fitted}
+use Rattle.trail.proofs.NewestReadsBack.{too-short, too-long, past-the-first, by-L}
+use Rattle.trail.proofs.reading.newest.Statement.{statement}
+use Rattle.trail.proofs.reading.newest.Tie as tie
+
+-- After the tests on L, the newest record is what `read_record` found.
+found : (c : tie.After-read-record) → let a = c .before .before .before .before .before .before .args in newest (2 ^ 21) (now (a .trail)) (a .used) ≡ c .read-record .result
+found c =
+    let a = c .before .before .before .before .before .before .args in
+    rw (by-L (2 ^ 21) (now (a .trail)) (a .used) (omega arith) (omega arith) (omega arith)) (sym (c .read-record .ensures))
+
+sub-end : tie.Need-sub-end
+sub-end c = search needs
+
+shared-slice-read-n : tie.Need-shared-slice-read-n
+shared-slice-read-n c = search needs
+
+cast-n : tie.Need-cast-n
+cast-n c = omega (arith, c .shared-slice-known2 .given (c .before .before .args .used - 1))
+
+returns : tie.Need-returns
+unfolding newest-fitted
+returns c =
+    let a = c .before .before .before .args in
+    rw (too-short (2 ^ 21) (now (a .trail)) (a .used) (omega arith))
+
+returns-2 : tie.Need-returns-2
+unfolding newest-fitted
+returns-2 c =
+    let a = c .before .before .before .before .args in
+    rw (too-long (2 ^ 21) (now (a .trail)) (a .used) (omega arith))
+
+returns-3 : tie.Need-returns-3
+unfolding newest-fitted
+returns-3 c =
+    let a = c .before .before .before .before .before .args in
+    rw (past-the-first (2 ^ 21) (now (a .trail)) (a .used) (omega arith) (omega arith) (omega arith))
+
+read-record-requires : tie.Need-read-record-requires
+read-record-requires c κs = search needs
+
+enum-known-o : tie.Need-enum-known-o
+enum-known-o c = search needs
+
+enum-told : tie.Need-enum-told
+enum-told c = search needs
+
+returns-4 : tie.Need-returns-4
+unfolding newest-fitted
+returns-4 c = rw (found (c .before .before), c .enum-told .given .1)
+
+fits-requires : tie.Need-fits-requires
+fits-requires c κs = search needs
+
+returns-5 : tie.Need-returns-5
+unfolding newest-fitted
+returns-5 c =
+    rw (found (c .before .before .before .before .before .before .before), c .before .before .before .before .before .o .given .1, eq-eqb _ 1 (c .before .before .if4 .taken), ← c .before .fits2 .ensures, not-true (c .before .fits2 .result) (c .if5 .taken))
+
+returns-6 : tie.Need-returns-6
+unfolding newest-fitted
+returns-6 c =
+    rw (found (c .before .before .before .before .before .before .before), c .before .before .before .before .before .o .given .1, eq-eqb _ 1 (c .before .before .if4 .taken), ← c .before .fits2 .ensures, not-false (c .before .fits2 .result) (c .if5 .left))
+
+returns-7 : tie.Need-returns-7
+unfolding newest-fitted
+returns-7 c = rw (found (c .before .before .before .before .before), c .before .before .before .o .given .1, ne-eqb _ 1 (c .if4 .left))
+
+pub newest-spec : {M : Type 1} → statement M
+newest-spec =
+    tie.close
+    (tie.spec
+    sub-end
+    shared-slice-read-n
+    cast-n
+    returns
+    returns-2
+    returns-3
+    read-record-requires
+    enum-known-o
+    enum-told
+    returns-4
+    fits-requires
+    returns-5
+    returns-6
+    returns-7)

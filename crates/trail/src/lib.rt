@@ -1,0 +1,38 @@
+// The trail (document 01, "The trail"): records of old values, each made whole and added right after the bytes in use, and read back from their end.
+use machine::Place;
+
+pub mod numbers;
+pub mod reading;
+pub mod records;
+
+// What a record holds: the marks, and the old values. What is not marked is 0.
+pub struct OldValues {
+    pub marks: u32,
+    pub p: u32,
+    pub a: u32,
+    pub x: u32,
+    pub y: u32,
+    pub place: u32,
+    pub value: u32,
+}
+
+// The word that an operation changed, if it changed one: its place and its old value.
+pub enum Word {
+    Kept,
+    Changed(Place, u32),
+}
+
+// What became of a record: it was added, with the count of bytes in use now, or it is longer than the free bytes.
+pub enum Added {
+    Used(usize),
+    Full,
+}
+
+// The newest record: its old values and the count of bytes in use once it is gone, or it is broken.
+pub enum Newest {
+    Record(OldValues, usize),
+    Broken,
+}
+
+// The number that port 0 has as a place; a main address is its own number.
+pub(crate) const FIRST_PORT: u32 = 1_048_576;

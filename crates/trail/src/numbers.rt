@@ -1,0 +1,94 @@
+// Numbers in groups of seven bits, low group first, top bit set on all but the last, in the fewest groups (document 01, "The trail").
+ghost use mathlib.Core.Path.{_≡_};
+ghost use Prim.Native.Nat.{_+_, _^_, _<_, _≤_};
+ghost use lib.ListN.{length};
+ghost use lib.Seq.{slice};
+ghost use Rattle.trail.specs.Numbers.{groups, bytes-if, over, below, read-in, read-if, number-of, Put};
+
+// What reading a number finds: its value and the place after it, or that it is broken.
+pub enum Number {
+    Got(u32, usize),
+    Broken,
+}
+
+// Puts a number into the bytes of a record, and answers the place after it. It takes five bytes at most.
+pub(crate) fn put_number(bytes: &mut [u8; 28], at: usize, n: u32) -> usize
+    requires { ⌜ (at + 5 ≤ 28) × (length (now bytes) ≡ 28) ⌝ }
+    ensures { λ next. ⌜ Put at (groups n) (now (bytes .entry)) (now (bytes .exit)) next ⌝ }
+{
+    let mut left = n;
+    let mut next = at;
+    while left >= 128 {
+        bytes[next] = (128 + left % 128) as u8;
+        left = left / 128;
+        next += 1;
+    }
+    bytes[next] = left as u8;
+    next + 1
+}
+
+// The same for a number that is marked; nothing is put for one that is not.
+pub(crate) fn put_if(marked: bool, bytes: &mut [u8; 28], at: usize, n: u32) -> usize
+    requires { ⌜ (at + 5 ≤ 28) × (length (now bytes) ≡ 28) ⌝ }
+    ensures { λ next. ⌜ Put at (bytes-if marked n) (now (bytes .entry)) (now (bytes .exit)) next ⌝ }
+{
+    if marked {
+        return put_number(bytes, at, n);
+    }
+    at
+}
+
+// The number below `bound` that stands at `at` and ends before `end`, if it is marked; else 0, and no byte is read.
+pub(crate) fn read_if(marked: bool, bytes: &[u8], at: usize, end: usize, bound: u64) -> Number
+    requires { ⌜ (at ≤ end) × (end ≤ length (now bytes)) × (bound ≤ 2 ^ 32) ⌝ }
+    ensures { λ r. ⌜ r ≡ number-of end (read-if marked bound (slice at end (now (bytes .entry)))) ⌝ }
+{
+    if !marked {
+        return Number::Got(0, at);
+    }
+    if end <= at {
+        return Number::Broken;
+    }
+    let b = bytes[at] as u64;
+    if b >= 128 {
+        return read_more(bytes, at + 1, end, b - 128, bound);
+    }
+    if b < bound {
+        return Number::Got(b as u32, at + 1);
+    }
+    Number::Broken
+}
+
+// The same, from its second group on; the first gave `first`.
+fn read_more(bytes: &[u8], at: usize, end: usize, first: u64, bound: u64) -> Number
+    requires { ⌜ (end ≤ length (now bytes)) × (first < 128) × (bound ≤ 2 ^ 32) ⌝ }
+    ensures { λ r. ⌜ r ≡ number-of end (below bound (over first (read-in 3 (slice at end (now (bytes .entry)))))) ⌝ }
+{
+    let mut next = at;
+    let mut low = first;
+    let mut scale: u64 = 128;
+    let mut more: u32 = 3;
+    while next < end {
+        let b = bytes[next] as u64;
+        if b < 128 {
+            if b == 0 {
+                // A group too many.
+                return Number::Broken;
+            }
+            let n = low + scale * b;
+            if n < bound {
+                return Number::Got(n as u32, next + 1);
+            }
+            return Number::Broken;
+        }
+        if more == 0 {
+            // A sixth group.
+            return Number::Broken;
+        }
+        low = low + scale * (b - 128);
+        scale = scale * 128;
+        more -= 1;
+        next += 1;
+    }
+    Number::Broken
+}

@@ -1,0 +1,102 @@
+// The newest record, read back from the end of the bytes in use (document 01, "The trail"). No trail byte is written here.
+use crate::FIRST_PORT;
+use crate::Newest;
+use crate::OldValues;
+use crate::numbers::Number;
+use crate::numbers::read_if;
+ghost use mathlib.Core.Path.{_≡_};
+ghost use Prim.Native.Nat.{_^_, _<_, _≤_};
+ghost use lib.ListN.{length};
+ghost use lib.Seq.{slice};
+ghost use Rattle.trail.specs.Records.{where-of-number};
+ghost use Rattle.trail.specs.Newest.{leaving, read-record, newest-fitted};
+ghost use Rattle.trail.specs.Newest as definitions;
+
+// The bounds of a record's numbers: the marks, P, the number of a place, and a register or a word.
+const MARKS: u64 = 64;
+
+const ADDRESSES: u64 = 1_048_576;
+
+const PLACES: u64 = 2_097_152;
+
+const WORDS: u64 = 4_294_967_296;
+
+// The record whose bytes before L stand from `start` to `end`.
+fn read_record(bytes: &[u8], start: usize, end: usize) -> Newest
+    requires { ⌜ (start ≤ end) × (end ≤ length (now bytes)) ⌝ }
+    ensures { λ r. ⌜ r ≡ leaving start (read-record (2 ^ 21) (slice start end (now (bytes .entry)))) ⌝ }
+{
+    // Nothing stands before the marks.
+    let at_marks = start;
+    let Number::Got(m, at_p) = read_if(true, bytes, at_marks, end, MARKS) else {
+        return Newest::Broken;
+    };
+    let Number::Got(p, at_a) = read_if(true, bytes, at_p, end, ADDRESSES) else {
+        return Newest::Broken;
+    };
+    let Number::Got(a, at_x) = read_if(m / 1 % 2 == 1, bytes, at_a, end, WORDS) else {
+        return Newest::Broken;
+    };
+    let Number::Got(x, at_y) = read_if(m / 2 % 2 == 1, bytes, at_x, end, WORDS) else {
+        return Newest::Broken;
+    };
+    let Number::Got(y, at_place) = read_if(m / 4 % 2 == 1, bytes, at_y, end, WORDS) else {
+        return Newest::Broken;
+    };
+    let Number::Got(place, at_value) = read_if(m / 8 % 2 == 1, bytes, at_place, end, PLACES) else {
+        return Newest::Broken;
+    };
+    let Number::Got(value, last) = read_if(m / 8 % 2 == 1, bytes, at_value, end, WORDS) else {
+        return Newest::Broken;
+    };
+    if last < end {
+        return Newest::Broken;
+    }
+    let o = OldValues {
+        marks: m,
+        p,
+        a,
+        x,
+        y,
+        place,
+        value,
+    };
+    Newest::Record(o, start)
+}
+
+// Whether the place of this number is fitted, in stores of these lengths.
+fn fits(place: u32, main: usize, ports: usize) -> bool
+    ensures { λ r. ⌜ r ≡ definitions.fits main ports (where-of-number place) ⌝ }
+{
+    if place < FIRST_PORT {
+        return (place as usize) < main;
+    }
+    ((place - FIRST_PORT) as usize) < ports
+}
+
+// The newest record of a trail of which `used` bytes are in use, beside stores of these lengths.
+pub fn newest(trail: &[u8], used: usize, main: usize, ports: usize) -> Newest
+    requires { ⌜ (0 < used) × (used ≤ length (now trail)) ⌝ }
+    ensures { λ r. ⌜ r ≡ newest-fitted main ports (now (trail .entry)) used ⌝ }
+{
+    let end = used - 1;
+    let n = trail[end] as usize;
+    if n < 2 {
+        return Newest::Broken;
+    }
+    if 27 < n {
+        return Newest::Broken;
+    }
+    if end < n {
+        return Newest::Broken;
+    }
+    let Newest::Record(o, left) = read_record(trail, end - n, end) else {
+        return Newest::Broken;
+    };
+    if o.marks / 8 % 2 == 1 {
+        if !fits(o.place, main, ports) {
+            return Newest::Broken;
+        }
+    }
+    Newest::Record(o, left)
+}

@@ -1,0 +1,379 @@
+// The public calls. Each is its refusals in the order of their numbers, and then one function that does the work (document 01).
+use crate::Answer;
+use crate::Outcome;
+use crate::Refusal;
+use crate::RunAnswer;
+use crate::RunOutcome;
+use crate::finish::finish;
+use crate::finish::put_word;
+use crate::phases::Change;
+use crate::phases::Plan;
+use crate::phases::Written;
+use crate::phases::plan_step;
+use crate::views::is_fitted;
+use machine::Ending;
+use machine::Machine;
+use machine::MainAddress;
+use machine::Place;
+use machine::PortNumber;
+use trail::Added;
+use trail::Newest;
+use trail::OldValues;
+use trail::Word;
+ghost use mathlib.Core.Path.{_≡_};
+ghost use mathlib.Core.Bool.{cond};
+ghost use mathlib.Core.List.{List};
+ghost use Prim.Native.Nat.{ℕ, _≤_, _<_, _^_};
+ghost use lib.ListN.{length};
+ghost use Rattle.machine.specs.Held.{ram, state, machine-of};
+ghost use Rattle.trail.specs.Records.{restored};
+ghost use Rattle.viper.specs.Noting.{noted, stores-restored, Refits};
+ghost use Rattle.viper.specs.Operations.{reset as reset·op, force as force·op, step as step·op, set-word, outcome};
+ghost use Rattle.viper.specs.Runs.{over-and-over, run-outcome};
+ghost use Rattle.viper.specs.TakingBack.{back-outcome};
+ghost use Rattle.viper.specs.Told.{bench, told, run-told};
+ghost use Rattle.viper.specs.Judging.{first-refusals, Lawful, ran-told, answer-by};
+
+// Refusals 1 to 3, by P, the words of both stores, the bytes of the trail and those in use.
+fn judge(p: u32, main: usize, ports: usize, trail: usize, used: usize) -> Answer
+    ensures { λ r. ⌜ r ≡ first-refusals p main ports trail used ⌝ }
+{
+    if p >= 0x10_0000 {
+        return Answer::Refused(Refusal::PTooLarge);
+    }
+    if main > 0x10_0000 {
+        return Answer::Refused(Refusal::StoreTooLong);
+    }
+    if ports > 0x10_0000 {
+        return Answer::Refused(Refusal::StoreTooLong);
+    }
+    if used > trail {
+        return Answer::Refused(Refusal::CountTooLarge);
+    }
+    Answer::Done
+}
+
+// Steps until STOP is set, the budget is used up, or a step is refused. It alone steps.
+struct Advanced {
+    machine: Machine,
+    used: usize,
+    steps: u32,
+    ending: Ending,
+}
+
+fn advance(
+    m: Machine,
+    main: &mut [u32],
+    ports: &mut [u32],
+    trail: &mut [u8],
+    used: usize,
+    budget: u32,
+) -> Advanced
+    requires { ⌜ Lawful (m .p) (length (now main)) (length (now ports)) (length (now trail)) used ⌝ }
+    ensures { λ r. ⌜ ran-told r (now (main .exit)) (now (ports .exit)) (now (trail .exit)) ≡ over-and-over budget (bench m (now (main .entry)) (now (ports .entry)) (now (trail .entry)) used) ⌝ }
+{
+    let table = instruction::class_table();
+    let mut current = m;
+    let mut count = used;
+    let mut steps: u32 = 0;
+    while !current.stop {
+        if steps == budget {
+            return Advanced {
+                machine: current,
+                used: count,
+                steps,
+                ending: Ending::Budget,
+            };
+        }
+        let Plan::Go(change) = plan_step(&table, current, main, ports) else {
+            return Advanced {
+                machine: current,
+                used: count,
+                steps,
+                ending: Ending::Unfitted,
+            };
+        };
+        let Added::Used(n) = finish(current, change, main, ports, trail, count) else {
+            return Advanced {
+                machine: current,
+                used: count,
+                steps,
+                ending: Ending::Full,
+            };
+        };
+        current = change.machine;
+        count = n;
+        steps += 1;
+    }
+    Advanced {
+        machine: current,
+        used: count,
+        steps,
+        ending: Ending::Stopped,
+    }
+}
+
+// One instruction.
+pub fn step(
+    m: Machine,
+    main: &mut [u32],
+    ports: &mut [u32],
+    trail: &mut [u8],
+    used: usize,
+) -> Outcome
+    ensures { λ r. ⌜ told r (now (main .exit)) (now (ports .exit)) (now (trail .exit)) ≡ outcome step·op (bench m (now (main .entry)) (now (ports .entry)) (now (trail .entry)) used) ⌝ }
+{
+    let first = judge(m.p, main.len(), ports.len(), trail.len(), used);
+    if let Answer::Refused(r) = first {
+        return Outcome {
+            machine: m,
+            used,
+            answer: Answer::Refused(r),
+        };
+    }
+    if m.stop {
+        return Outcome {
+            machine: m,
+            used,
+            answer: Answer::Refused(Refusal::Stopped),
+        };
+    }
+    let a = advance(m, main, ports, trail, used, 1);
+    let after = a.machine;
+    let ending = a.ending;
+    Outcome {
+        machine: after,
+        used: a.used,
+        answer: step_answer(ending),
+    }
+}
+
+// The answer of a step, from how a run of one step ended.
+fn step_answer(ending: Ending) -> Answer
+    ensures { λ r. ⌜ r ≡ answer-by ending ⌝ }
+{
+    match ending {
+        Ending::Stopped => Answer::Done,
+        Ending::Budget => Answer::Done,
+        Ending::Unfitted => Answer::Refused(Refusal::Unfitted),
+        Ending::Full => Answer::Refused(Refusal::TrailFull),
+    }
+}
+
+// Steps until STOP is set, the budget is used up, or a step is refused, with the earlier steps kept.
+pub fn run(
+    m: Machine,
+    main: &mut [u32],
+    ports: &mut [u32],
+    trail: &mut [u8],
+    used: usize,
+    budget: u32,
+) -> RunOutcome
+    ensures { λ r. ⌜ run-told r (now (main .exit)) (now (ports .exit)) (now (trail .exit)) ≡ run-outcome budget (bench m (now (main .entry)) (now (ports .entry)) (now (trail .entry)) used) ⌝ }
+{
+    let first = judge(m.p, main.len(), ports.len(), trail.len(), used);
+    if let Answer::Refused(r) = first {
+        return RunOutcome {
+            machine: m,
+            used,
+            answer: RunAnswer::Refused(r),
+        };
+    }
+    let a = advance(m, main, ports, trail, used, budget);
+    let after = a.machine;
+    let ending = a.ending;
+    RunOutcome {
+        machine: after,
+        used: a.used,
+        answer: RunAnswer::Ended(a.steps, ending),
+    }
+}
+
+// An operation on the machine alone: its record goes to the trail, whatever the stores hold.
+fn note(m: Machine, after: Machine, trail: &mut [u8], used: usize) -> Outcome
+    ensures { λ r. ⌜ ((main ports : List ℕ) → told r main ports (now (trail .exit)) ≡ noted m after (ram main ports) (now (trail .entry)) used) ⌝ }
+{
+    if m.p >= 0x10_0000 {
+        return Outcome {
+            machine: m,
+            used,
+            answer: Answer::Refused(Refusal::PTooLarge),
+        };
+    }
+    if used > trail.len() {
+        return Outcome {
+            machine: m,
+            used,
+            answer: Answer::Refused(Refusal::CountTooLarge),
+        };
+    }
+    let o = trail::records::old_values(m, after, Word::Kept);
+    let Added::Used(n) = trail::records::add(trail, used, o) else {
+        return Outcome {
+            machine: m,
+            used,
+            answer: Answer::Refused(Refusal::TrailFull),
+        };
+    };
+    Outcome {
+        machine: after,
+        used: n,
+        answer: Answer::Done,
+    }
+}
+
+// Clears A, X, Y, P, B and STOP.
+pub fn reset(m: Machine, trail: &mut [u8], used: usize) -> Outcome
+    ensures { λ r. ⌜ ((main ports : List ℕ) → told r main ports (now (trail .exit)) ≡ outcome reset·op (bench m main ports (now (trail .entry)) used)) ⌝ }
+{
+    let cleared = Machine {
+        a: 0,
+        x: 0,
+        y: 0,
+        p: 0,
+        b: false,
+        stop: false,
+    };
+    note(m, cleared, trail, used)
+}
+
+// Sets STOP, also when it is set already.
+pub fn force(m: Machine, trail: &mut [u8], used: usize) -> Outcome
+    ensures { λ r. ⌜ ((main ports : List ℕ) → told r main ports (now (trail .exit)) ≡ outcome force·op (bench m main ports (now (trail .entry)) used)) ⌝ }
+{
+    let stopped = Machine {
+        a: m.a,
+        x: m.x,
+        y: m.y,
+        p: m.p,
+        b: m.b,
+        stop: true,
+    };
+    note(m, stopped, trail, used)
+}
+
+// Puts a value at a main address or port number, on a halted machine too.
+pub fn set(
+    m: Machine,
+    main: &mut [u32],
+    ports: &mut [u32],
+    trail: &mut [u8],
+    used: usize,
+    place: Place,
+    value: u32,
+) -> Outcome
+    ensures { λ r. ⌜ told r (now (main .exit)) (now (ports .exit)) (now (trail .exit)) ≡ outcome (set-word place value) (bench m (now (main .entry)) (now (ports .entry)) (now (trail .entry)) used) ⌝ }
+{
+    let first = judge(m.p, main.len(), ports.len(), trail.len(), used);
+    if let Answer::Refused(r) = first {
+        return Outcome {
+            machine: m,
+            used,
+            answer: Answer::Refused(r),
+        };
+    }
+    if !is_fitted(main, ports, place, 1) {
+        return Outcome {
+            machine: m,
+            used,
+            answer: Answer::Refused(Refusal::Unfitted),
+        };
+    }
+    let change = Change {
+        machine: m,
+        written: Written::Word(place, value),
+    };
+    let Added::Used(n) = finish(m, change, main, ports, trail, used) else {
+        return Outcome {
+            machine: m,
+            used,
+            answer: Answer::Refused(Refusal::TrailFull),
+        };
+    };
+    Outcome {
+        machine: m,
+        used: n,
+        answer: Answer::Done,
+    }
+}
+
+// The machine with the old values of a record: what is not marked stays.
+fn machine_restored(o: OldValues, m: Machine) -> Machine
+    ensures { λ r. ⌜ ((main ports : List ℕ) → r ≡ machine-of (restored o (state m (ram main ports)))) ⌝ }
+{
+    let marks = o.marks;
+    Machine {
+        a: choose(marks / 1 % 2 == 1, o.a, m.a),
+        x: choose(marks / 2 % 2 == 1, o.x, m.x),
+        y: choose(marks / 4 % 2 == 1, o.y, m.y),
+        p: o.p,
+        b: marks / 16 % 2 == 1,
+        stop: marks / 32 % 2 == 1,
+    }
+}
+
+fn choose(first: bool, a: u32, b: u32) -> u32
+    ensures { λ r. ⌜ r ≡ cond first a b ⌝ }
+{
+    if first { a } else { b }
+}
+
+// Puts back the word of a record that marks one.
+fn word_restored(o: OldValues, main: &mut [u32], ports: &mut [u32])
+    requires { ⌜ Refits (ram (now main) (now ports)) o ⌝ }
+    ensures { λ _. ⌜ ram (now (main .exit)) (now (ports .exit)) ≡ stores-restored o (ram (now (main .entry)) (now (ports .entry))) ⌝ }
+{
+    if o.marks / 8 % 2 == 1 {
+        if o.place < 0x10_0000 {
+            put_word(main, ports, Place::Main(MainAddress(o.place)), o.value);
+        } else {
+            put_word(
+                main,
+                ports,
+                Place::Port(PortNumber(o.place - 0x10_0000)),
+                o.value,
+            );
+        }
+    }
+}
+
+// Takes back the newest operation on the trail. No trail byte is written.
+pub fn take_back(
+    m: Machine,
+    main: &mut [u32],
+    ports: &mut [u32],
+    trail: &[u8],
+    used: usize,
+) -> Outcome
+    ensures { λ r. ⌜ told r (now (main .exit)) (now (ports .exit)) (now (trail .entry)) ≡ back-outcome (bench m (now (main .entry)) (now (ports .entry)) (now (trail .entry)) used) ⌝ }
+{
+    let first = judge(m.p, main.len(), ports.len(), trail.len(), used);
+    if let Answer::Refused(r) = first {
+        return Outcome {
+            machine: m,
+            used,
+            answer: Answer::Refused(r),
+        };
+    }
+    if used == 0 {
+        return Outcome {
+            machine: m,
+            used,
+            answer: Answer::Refused(Refusal::NothingInUse),
+        };
+    }
+    let Newest::Record(o, left) = trail::reading::newest(trail, used, main.len(), ports.len())
+    else {
+        return Outcome {
+            machine: m,
+            used,
+            answer: Answer::Refused(Refusal::BrokenRecord),
+        };
+    };
+    word_restored(o, main, ports);
+    Outcome {
+        machine: machine_restored(o, m),
+        used: left,
+        answer: Answer::Done,
+    }
+}

@@ -1,0 +1,329 @@
+/* The benchmark: the same routines forward with their trail, back again, and by single steps, in
+ * our bench (include/viper.h) and in its peer (fast.c), in turns within one run.
+ *
+ * benchmark [emulated] */
+
+#define _POSIX_C_SOURCE 200809L
+
+#include "board.h"
+#include "fast.h"
+
+#include "../include/viper.h"
+
+#include <inttypes.h>
+#include <stdio.h>
+#include <stdlib.h>
+#include <string.h>
+#include <time.h>
+
+enum { MOST_STEPS = 1000000, FEWEST_WORDS = 1024, MOST_WORDS = 1048576 };
+enum { TRAIL = 14 * MOST_STEPS, ROUNDS = 9 };
+
+/* ---- The routines ---- */
+
+struct routine {
+    const char *name;
+    uint32_t words[32];
+};
+
+static const struct routine routines[] = {
+    {"arithmetic",
+     {
+         0x00400003, /* 00 A := A + 3, B := carry */
+         0x008000FF, /* 01 A := A XOR FF */
+         0x72C00000, /* 02 X := X left through B */
+         0x84600001, /* 03 Y := Y - 1, B := borrow */
+         0x81100000, /* 04 B := Y >= 0 */
+         0x08300000, /* 05 if B, P := 00 */
+         0x04300032, /* 06 Y := 32 */
+         0x06300000, /* 07 P := 00 */
+     }},
+    {"memory",
+     {
+         0x02300000, /* 00 X := 0 */
+         0x20300100, /* 01 A := main 100+X */
+         0x20400200, /* 02 A := A + main 200+X */
+         0x2E000200, /* 03 main 200+X := A */
+         0x42400001, /* 04 X := X + 1 */
+         0x41000040, /* 05 B := X < 40 */
+         0x08300001, /* 06 if B, P := 01 */
+         0x06300000, /* 07 P := 00 */
+     }},
+    {"ports",
+     {
+         0x02300000, /* 00 X := 0 */
+         0x20200000, /* 01 A := port X */
+         0x00400001, /* 02 A := A + 1 */
+         0x2C000008, /* 03 port 8+X := A */
+         0x1C000003, /* 04 port 3 := A */
+         0x42400001, /* 05 X := X + 1 */
+         0x41000020, /* 06 B := X < 20 */
+         0x08300001, /* 07 if B, P := 01 */
+         0x06300000, /* 08 P := 00 */
+     }},
+    {"calls",
+     {
+         0x02300014, /* 00 X := 14 */
+         0x06100010, /* 01 call 10 */
+         0x06100018, /* 02 call 18 */
+         0x42600001, /* 03 X := X - 1 */
+         0x41500000, /* 04 B := X > 0 */
+         0x08300001, /* 05 if B, P := 01 */
+         0x06300000, /* 06 P := 00 */
+         [0x10] = 0x00400005, /* 10 A := A + 5 */
+         0x86500000,          /* 11 return: P := Y + 0 */
+         [0x18] = 0x9E000030, /* 18 main 30 := Y */
+         0x06100010,          /* 19 call 10 */
+         0x14300030,          /* 1A Y := main 30 */
+         0x86500000,          /* 1B return: P := Y + 0 */
+     }},
+};
+
+enum { ROUTINES = sizeof routines / sizeof routines[0] };
+
+/* ---- The two sides ---- */
+
+struct side {
+    const char *name;
+    uint32_t (*step)(uint32_t[6], uint32_t *, size_t, uint32_t *, size_t, uint8_t *, size_t,
+                     size_t *);
+    uint64_t (*run)(uint32_t[6], uint32_t *, size_t, uint32_t *, size_t, uint8_t *, size_t,
+                    size_t *, uint32_t);
+    uint32_t (*back)(uint32_t[6], uint32_t *, size_t, uint32_t *, size_t, const uint8_t *, size_t,
+                     size_t *);
+    struct board board;
+};
+
+static struct side ours = {.name = "ours", .step = viper_step, .run = viper_run,
+                           .back = viper_back};
+static struct side peer = {.name = "peer", .step = fast_step, .run = fast_run, .back = fast_back};
+
+static void wrong(const struct side *side, const char *what)
+{
+    printf("benchmark: WRONG, %s: %s\n", side->name, what);
+    exit(1);
+}
+
+static void load(struct side *side, const struct routine *routine, size_t main_length,
+                 size_t ports_length)
+{
+    struct board *b = &side->board;
+    memset(b->regs, 0, sizeof b->regs);
+    memset(b->main, 0, main_length * sizeof *b->main);
+    memset(b->ports, 0, ports_length * sizeof *b->ports);
+    memcpy(b->main, routine->words, sizeof routine->words);
+    b->main_length = main_length;
+    b->ports_length = ports_length;
+    b->trail_length = TRAIL;
+    b->used = 0;
+}
+
+static void forward_by_run(struct side *side, uint32_t steps)
+{
+    struct board *b = &side->board;
+    uint64_t answer = side->run(b->regs, b->main, b->main_length, b->ports, b->ports_length,
+                                b->trail, b->trail_length, &b->used, steps);
+    if (answer != steps + ((uint64_t)VIPER_BUDGET << 32))
+        wrong(side, "a run did not spend its budget");
+}
+
+static void forward_by_steps(struct side *side, uint32_t steps)
+{
+    struct board *b = &side->board;
+    uint32_t refused = 0;
+    for (uint32_t i = 0; i < steps; i++)
+        refused |= side->step(b->regs, b->main, b->main_length, b->ports, b->ports_length,
+                              b->trail, b->trail_length, &b->used);
+    if (refused != 0)
+        wrong(side, "a step was refused");
+}
+
+static void back_to_the_start(struct side *side, uint32_t steps)
+{
+    struct board *b = &side->board;
+    uint32_t taken = 0;
+    while (side->back(b->regs, b->main, b->main_length, b->ports, b->ports_length, b->trail,
+                      b->trail_length, &b->used) == 0)
+        taken++;
+    if (taken != steps || b->used != 0)
+        wrong(side, "taking back did not reach the start");
+}
+
+/* ---- That both do the same job ---- */
+
+static void compare(const char *when)
+{
+    if (board_same(&ours.board, &peer.board, true))
+        return;
+    printf("benchmark: WRONG, the two sides differ %s\n", when);
+    board_print_differences("ours", &ours.board, "peer", &peer.board);
+    exit(1);
+}
+
+static void check_same_job(uint32_t steps)
+{
+    forward_by_run(&ours, steps);
+    forward_by_run(&peer, steps);
+    compare("after a run");
+    back_to_the_start(&ours, steps);
+    back_to_the_start(&peer, steps);
+    compare("after taking back");
+    forward_by_steps(&ours, steps);
+    forward_by_steps(&peer, steps);
+    compare("after single steps");
+    back_to_the_start(&ours, steps);
+    back_to_the_start(&peer, steps);
+}
+
+/* ---- Times ---- */
+
+enum job { BY_RUN, BACK, BY_STEPS, JOBS };
+
+/* Nanoseconds a step, for each job. */
+struct costs {
+    double of[JOBS];
+};
+
+static double now(void)
+{
+    struct timespec t;
+    clock_gettime(CLOCK_PROCESS_CPUTIME_ID, &t);
+    return (double)t.tv_sec * 1e9 + (double)t.tv_nsec;
+}
+
+static struct costs measure(struct side *side, uint32_t steps)
+{
+    const uint32_t times = MOST_STEPS / steps;
+    struct costs costs = {{0, 0, 0}};
+    for (uint32_t i = 0; i < times; i++) {
+        double start = now();
+        forward_by_run(side, steps);
+        double run = now();
+        back_to_the_start(side, steps);
+        double back = now();
+        forward_by_steps(side, steps);
+        double stepped = now();
+        back_to_the_start(side, steps);
+        costs.of[BY_RUN] += run - start;
+        costs.of[BACK] += (back - run + (now() - stepped)) / 2;
+        costs.of[BY_STEPS] += stepped - back;
+    }
+    for (int job = 0; job < JOBS; job++)
+        costs.of[job] /= (double)steps * times;
+    return costs;
+}
+
+static int by_size(const void *one, const void *other)
+{
+    double a = *(const double *)one, b = *(const double *)other;
+    return (a > b) - (a < b);
+}
+
+static double median(double values[ROUNDS])
+{
+    qsort(values, ROUNDS, sizeof values[0], by_size);
+    return values[ROUNDS / 2];
+}
+
+struct outcome {
+    struct costs ours, peer, speed;
+};
+
+/* Several rounds, ours first in every other one; the medians. */
+static struct outcome measure_both(uint32_t steps)
+{
+    double times[2][JOBS][ROUNDS], speeds[JOBS][ROUNDS];
+    struct outcome outcome;
+    for (int round = 0; round < ROUNDS; round++) {
+        struct costs one = measure(round % 2 ? &peer : &ours, steps);
+        struct costs other = measure(round % 2 ? &ours : &peer, steps);
+        for (int job = 0; job < JOBS; job++) {
+            times[0][job][round] = round % 2 ? other.of[job] : one.of[job];
+            times[1][job][round] = round % 2 ? one.of[job] : other.of[job];
+            speeds[job][round] = times[1][job][round] / times[0][job][round];
+        }
+    }
+    for (int job = 0; job < JOBS; job++) {
+        outcome.ours.of[job] = median(times[0][job]);
+        outcome.peer.of[job] = median(times[1][job]);
+        outcome.speed.of[job] = median(speeds[job]);
+    }
+    return outcome;
+}
+
+/* ---- The tables ---- */
+
+static void speed_table(void)
+{
+    struct costs all_ours = {{0, 0, 0}}, all_peer = {{0, 0, 0}};
+    printf("%d steps, main 8192 words, ports 256 words, median of %d rounds\n", MOST_STEPS,
+           ROUNDS);
+    printf("speed of ours to the peer's (above 1: ours is faster); ns a step: ours, peer\n");
+    printf("%-12s %-22s %-22s %-22s\n", "routine", "run", "take back", "single steps");
+    for (int i = 0; i < ROUTINES; i++) {
+        load(&ours, &routines[i], 8192, 256);
+        load(&peer, &routines[i], 8192, 256);
+        check_same_job(MOST_STEPS);
+        struct outcome o = measure_both(MOST_STEPS);
+        printf("%-12s", routines[i].name);
+        for (int job = 0; job < JOBS; job++) {
+            printf(" %5.2f (%6.2f, %6.2f)", o.speed.of[job], o.ours.of[job], o.peer.of[job]);
+            all_ours.of[job] += o.ours.of[job];
+            all_peer.of[job] += o.peer.of[job];
+        }
+        printf("\n");
+        fflush(stdout);
+    }
+    printf("%-12s", "together");
+    for (int job = 0; job < JOBS; job++)
+        printf(" %5.2f (%6.2f, %6.2f)", all_peer.of[job] / all_ours.of[job],
+               all_ours.of[job] / ROUTINES, all_peer.of[job] / ROUTINES);
+    printf("\n\n");
+}
+
+static struct costs growth_row(uint32_t steps, size_t words)
+{
+    const struct routine *memory = &routines[1];
+    load(&ours, memory, words, words);
+    load(&peer, memory, words, words);
+    check_same_job(steps);
+    struct outcome o = measure_both(steps);
+    printf("%9" PRIu32 " %9zu", steps, words);
+    for (int job = 0; job < JOBS; job++)
+        printf("   %6.2f, %6.2f", o.ours.of[job], o.peer.of[job]);
+    printf("\n");
+    fflush(stdout);
+    return o.ours;
+}
+
+static void print_growth(const char *with, struct costs least, struct costs most)
+{
+    printf("ours grows with the %s", with);
+    for (int job = 0; job < JOBS; job++)
+        printf("%s %.2f times", job > 0 ? "," : " by", most.of[job] / least.of[job]);
+    printf("\n");
+}
+
+static void growth_table(void)
+{
+    printf("routine memory, ns a step: ours, peer; the cost must not grow with steps or words\n");
+    printf("%9s %9s   %-16s %-16s %-16s\n", "steps", "words", "run", "take back",
+           "single steps");
+    struct costs few = growth_row(1000, 8192);
+    growth_row(100000, 8192);
+    print_growth("steps", few, growth_row(MOST_STEPS, 8192));
+    struct costs small = growth_row(100000, FEWEST_WORDS);
+    growth_row(100000, 65536);
+    print_growth("words", small, growth_row(100000, MOST_WORDS));
+}
+
+int main(int argc, char **argv)
+{
+    ours.board = board_with_room(MOST_WORDS, MOST_WORDS, TRAIL);
+    peer.board = board_with_room(MOST_WORDS, MOST_WORDS, TRAIL);
+    if (argc > 1 && strcmp(argv[1], "emulated") == 0)
+        printf("this machine emulates x86-64: a time says nothing, a ratio is a fair proxy\n");
+    speed_table();
+    growth_table();
+    return 0;
+}
