@@ -53,7 +53,7 @@ fn judge(p: u32, main: usize, ports: usize, trail: usize, used: usize) -> Answer
     Answer::Done
 }
 
-// Steps until STOP is set, the budget is used up, or a step is refused. It alone steps.
+// What a run of steps came to: the machine, the bytes in use, the steps done and how it ended.
 struct Advanced {
     machine: Machine,
     used: usize,
@@ -61,6 +61,7 @@ struct Advanced {
     ending: Ending,
 }
 
+// Steps until STOP is set, the budget is used up, or a step is refused. It alone steps.
 fn advance(
     m: Machine,
     main: &mut [u32],
@@ -139,10 +140,10 @@ pub fn step(
         };
     }
     let a = advance(m, main, ports, trail, used, 1);
-    let after = a.machine;
+    let stepped = a.machine;
     let ending = a.ending;
     Outcome {
-        machine: after,
+        machine: stepped,
         used: a.used,
         answer: step_answer(ending),
     }
@@ -180,10 +181,10 @@ pub fn run(
         };
     }
     let a = advance(m, main, ports, trail, used, budget);
-    let after = a.machine;
+    let reached = a.machine;
     let ending = a.ending;
     RunOutcome {
-        machine: after,
+        machine: reached,
         used: a.used,
         answer: RunAnswer::Ended(a.steps, ending),
     }
