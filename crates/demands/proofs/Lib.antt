@@ -1,0 +1,5 @@
+pub mod FirstDemand
+pub mod Undoing
+pub mod SecondDemand
+pub mod ThirdDemand
+pub mod Uniqueness

@@ -1,0 +1,112 @@
+-- Each public call's contract determines all that it answers and leaves: two outcomes that both meet it are equal.
+-- It holds since every contract is an equation with a definition, from which the outcome can be read off again.
+-- Assumes nothing.
+use mathlib.Core.Path.{_≡_, sym, ap, _∙_}
+use mathlib.Core.Bool.{Bool}
+use mathlib.Core.List.{List, []}
+use Prim.Native.Nat.{ℕ}
+use lib.ListN.{length}
+use Rattle.machine.specs.Held.{machine-of}
+use Rattle.machine.specs.declared.Machine.{Machine}
+use Rattle.machine.specs.declared.Place.{Place}
+use Rattle.viper.specs.Operations as operations
+use Rattle.viper.specs.Operations.{Bench, Operation, step, reset, force, set-word, outcome}
+use Rattle.viper.specs.Runs as runs
+use Rattle.viper.specs.Runs.{run-outcome}
+use Rattle.viper.specs.TakingBack.{back-outcome}
+use Rattle.viper.specs.Views.{viewed, view-fitted}
+use Rattle.viper.specs.Told.{bench, told, run-told}
+use Rattle.viper.specs.declared.Outcome.{Outcome}
+use Rattle.viper.specs.declared.RunOutcome.{RunOutcome}
+
+-- What a call hands back, with what both stores and the trail hold at the end.
+pub record Left : Type 0 where
+  pub handed : Outcome
+  pub main : List ℕ
+  pub ports : List ℕ
+  pub trail : List ℕ
+
+pub record RunLeft : Type 0 where
+  pub handed : RunOutcome
+  pub main : List ℕ
+  pub ports : List ℕ
+  pub trail : List ℕ
+
+-- What a contract says of it.
+abbrev pub told-of : Left → operations.Outcome
+told-of o = told (o .handed) (o .main) (o .ports) (o .trail)
+
+abbrev pub run-told-of : RunLeft → runs.RunOutcome
+run-told-of o = run-told (o .handed) (o .main) (o .ports) (o .trail)
+
+left-by : operations.Outcome → Left
+left-by o =
+    record {
+      handed = record { machine = machine-of (o .bench .state); used = o .bench .used; answer = o .answered };
+      main = o .bench .state .0 .main;
+      ports = o .bench .state .0 .ports;
+      trail = o .bench .trail;
+    }
+
+run-left-by : runs.RunOutcome → RunLeft
+run-left-by o =
+    record {
+      handed = record { machine = machine-of (o .bench .state); used = o .bench .used; answer = o .answered };
+      main = o .bench .state .0 .main;
+      ports = o .bench .state .0 .ports;
+      trail = o .bench .trail;
+    }
+
+same-left : (o q : Left) (d : operations.Outcome) → told-of o ≡ d → told-of q ≡ d → o ≡ q
+unfolding left-by
+same-left o q d h k = ap left-by (h ∙ sym k)
+
+same-run-left : (o q : RunLeft) (d : runs.RunOutcome) → run-told-of o ≡ d → run-told-of q ≡ d → o ≡ q
+unfolding run-left-by
+same-run-left o q d h k = ap run-left-by (h ∙ sym k)
+
+module _ (m : Machine) (main ports trail : List ℕ) (used : ℕ) where
+  abbrev given : Bench
+  given = bench m main ports trail used
+
+  pub step-unique : (o q : Left) → told-of o ≡ outcome step given → told-of q ≡ outcome step given → o ≡ q
+  step-unique o q h k = same-left o q (outcome step given) h k
+
+  pub run-unique : (budget : ℕ) (o q : RunLeft) → run-told-of o ≡ run-outcome budget given → run-told-of q ≡ run-outcome budget given → o ≡ q
+  run-unique budget o q h k = same-run-left o q (run-outcome budget given) h k
+
+  pub set-unique : (place : Place) (value : ℕ) (o q : Left) → told-of o ≡ outcome (set-word place value) given → told-of q ≡ outcome (set-word place value) given → o ≡ q
+  set-unique place value o q h k = same-left o q (outcome (set-word place value) given) h k
+
+  pub take-back-unique : (o q : Left) → told-of o ≡ back-outcome given → told-of q ≡ back-outcome given → o ≡ q
+  take-back-unique o q h k = same-left o q (back-outcome given) h k
+
+-- Reset and force are lent no store: their contracts hold of whatever the stores hold.
+module _ (m : Machine) (trail : List ℕ) (used : ℕ) where
+  abbrev Alone : Operation → Outcome → List ℕ → Type 0
+  Alone e r t = (main ports : List ℕ) → told r main ports t ≡ outcome e (bench m main ports trail used)
+
+  alone-unique : (e : Operation) (r r′ : Outcome) (t t′ : List ℕ) → Alone e r t → Alone e r′ t′ → (r ≡ r′) × (t ≡ t′)
+  alone-unique e r r′ t t′ h k =
+      let q = same-left (record { handed = r; main = []; ports = []; trail = t }) (record { handed = r′; main = []; ports = []; trail = t′ }) (outcome e (bench m [] [] trail used)) (h [] []) (k [] []) in
+      (ap (λ (o : Left). o .handed) q, ap (λ (o : Left). o .trail) q)
+
+  pub reset-unique : (r r′ : Outcome) (t t′ : List ℕ)
+      → ((main ports : List ℕ) → told r main ports t ≡ outcome reset (bench m main ports trail used))
+      → ((main ports : List ℕ) → told r′ main ports t′ ≡ outcome reset (bench m main ports trail used))
+      → (r ≡ r′) × (t ≡ t′)
+  reset-unique r r′ t t′ h k = alone-unique reset r r′ t t′ h k
+
+  pub force-unique : (r r′ : Outcome) (t t′ : List ℕ)
+      → ((main ports : List ℕ) → told r main ports t ≡ outcome force (bench m main ports trail used))
+      → ((main ports : List ℕ) → told r′ main ports t′ ≡ outcome force (bench m main ports trail used))
+      → (r ≡ r′) × (t ≡ t′)
+  force-unique r r′ t t′ h k = alone-unique force r r′ t t′ h k
+
+-- The stretch that a view answers, and whether it is fitted.
+module _ (main ports : List ℕ) (place : Place) (n : ℕ) where
+  pub view-unique : (s t : List ℕ) → s ≡ viewed main ports place n → t ≡ viewed main ports place n → s ≡ t
+  view-unique s t h k = h ∙ sym k
+
+  pub fitted-unique : (s t : Bool) → s ≡ view-fitted (length main) (length ports) place n → t ≡ view-fitted (length main) (length ports) place n → s ≡ t
+  fitted-unique s t h k = h ∙ sym k
