@@ -133,6 +133,7 @@ pub record ReadsBack (e : Operation) (s : State) : Type 0 where
       ≡ Record (old-values-of s (next e s) (writes-at e s)) (length before)
   pub back : restored (old-values-of s (next e s) (writes-at e s)) (next e s) ≡ s
 
+-- So does the record of every operation that is fitted, on a valid machine.
 pub reads-back : (e : Operation) (s : State) → Valid s → unfitted (operate e) s ≡ false → ReadsBack e s
 reads-back e s ok h =
     let u = undoes e s ok h in

@@ -65,19 +65,24 @@ same-run-left : (o q : RunLeft) (d : runs.RunOutcome) → run-told-of o ≡ d �
 unfolding run-left-by
 same-run-left o q d h k = ap run-left-by (h ∙ sym k)
 
+-- Step, run, set and take back, of any machine, stores, trail and count in use.
 module _ (m : Machine) (main ports trail : List ℕ) (used : ℕ) where
   abbrev given : Bench
   given = bench m main ports trail used
 
+  -- A step.
   pub step-unique : (o q : Left) → told-of o ≡ outcome step given → told-of q ≡ outcome step given → o ≡ q
   step-unique o q h k = same-left o q (outcome step given) h k
 
+  -- A run, of any budget.
   pub run-unique : (budget : ℕ) (o q : RunLeft) → run-told-of o ≡ run-outcome budget given → run-told-of q ≡ run-outcome budget given → o ≡ q
   run-unique budget o q h k = same-run-left o q (run-outcome budget given) h k
 
+  -- A set, of any place and value.
   pub set-unique : (place : Place) (value : ℕ) (o q : Left) → told-of o ≡ outcome (set-word place value) given → told-of q ≡ outcome (set-word place value) given → o ≡ q
   set-unique place value o q h k = same-left o q (outcome (set-word place value) given) h k
 
+  -- A take-back.
   pub take-back-unique : (o q : Left) → told-of o ≡ back-outcome given → told-of q ≡ back-outcome given → o ≡ q
   take-back-unique o q h k = same-left o q (back-outcome given) h k
 
@@ -91,22 +96,26 @@ module _ (m : Machine) (trail : List ℕ) (used : ℕ) where
       let q = same-left (record { handed = r; main = []; ports = []; trail = t }) (record { handed = r′; main = []; ports = []; trail = t′ }) (outcome e (bench m [] [] trail used)) (h [] []) (k [] []) in
       (ap (λ (o : Left). o .handed) q, ap (λ (o : Left). o .trail) q)
 
+  -- A reset.
   pub reset-unique : (r r′ : Outcome) (t t′ : List ℕ)
       → ((main ports : List ℕ) → told r main ports t ≡ outcome reset (bench m main ports trail used))
       → ((main ports : List ℕ) → told r′ main ports t′ ≡ outcome reset (bench m main ports trail used))
       → (r ≡ r′) × (t ≡ t′)
   reset-unique r r′ t t′ h k = alone-unique reset r r′ t t′ h k
 
+  -- A force.
   pub force-unique : (r r′ : Outcome) (t t′ : List ℕ)
       → ((main ports : List ℕ) → told r main ports t ≡ outcome force (bench m main ports trail used))
       → ((main ports : List ℕ) → told r′ main ports t′ ≡ outcome force (bench m main ports trail used))
       → (r ≡ r′) × (t ≡ t′)
   force-unique r r′ t t′ h k = alone-unique force r r′ t t′ h k
 
--- The stretch that a view answers, and whether it is fitted.
+-- View and its yes or no are lent both stores and change nothing.
 module _ (main ports : List ℕ) (place : Place) (n : ℕ) where
+  -- The stretch that a view answers.
   pub view-unique : (s t : List ℕ) → s ≡ viewed main ports place n → t ≡ viewed main ports place n → s ≡ t
   view-unique s t h k = h ∙ sym k
 
+  -- Whether a stretch is fitted.
   pub fitted-unique : (s t : Bool) → s ≡ view-fitted (length main) (length ports) place n → t ≡ view-fitted (length main) (length ports) place n → s ≡ t
   fitted-unique s t h k = h ∙ sym k

@@ -135,7 +135,8 @@ back-by (e ∷ l) = answer.Done
 -- ---- the calls themselves
 
 -- A session that began with the bench b₀, the bench now, and the list kept by the answers: each call is given what the one before it left,
--- and answers and leaves anything that its contract allows. `operates` is step, reset, force and set; what each carries is the call's `ensures`.
+-- and answers and leaves anything that its contract allows. `operates` is step, reset, force and set.
+-- The equation that each carries is the call's `ensures` (of reset and force, which are lent no store, at the stores as they are).
 pub data Session (b₀ : Bench) : Bench → List Operation → Type 0 where
   begins : Session b₀ b₀ []
   operates : {b : Bench} {l : List Operation} (e : Operation) (r : Outcome) (main ports trail : List ℕ) → Session b₀ b l → Typed e
