@@ -11,3 +11,5 @@ pub mod Putting
 pub mod Adding
 pub mod ReadingGroups
 pub mod ReadingNumbers
+-- What the walks of the functions over a trail reader rest on.
+pub mod HeldReader

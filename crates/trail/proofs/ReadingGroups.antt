@@ -2,7 +2,7 @@
 -- Assumes nothing.
 use Prim.Native.Nat.{ℕ, zero, suc, _+_, _*_, _-_, _<_, _≤_}
 use mathlib.Core.Path.{_≡_, refl, ap, _∙_}
-use mathlib.Core.Bool.{true, false, cond}
+use mathlib.Core.Bool.{false, cond}
 use mathlib.Core.List.{List, [], _∷_}
 use native.Mathlib.Omega.{arith}
 use native.Mathlib.Nat.{mul-add, mul-assoc, mul-suc, mul-le-mul-left}
@@ -12,7 +12,7 @@ use lib.ListN.{length, getD}
 use lib.Seq.{slice, slice-cons, length-slice}
 use borrow.Author.Tests.{lt-ltb, le-ltb, eq-eqb, ne-eqb}
 use Rattle.trail.specs.declared.numbers.Number.the-variants.{Got, Broken}
-use Rattle.trail.specs.Numbers.{Read, got, broken, over, read-in, below, read-if, number-of}
+use Rattle.trail.specs.Numbers.{Read, got, broken, over, read-in, below, read-below, read-if, number-of}
 use Rattle.trail.proofs.NumbersReadBack.{cap, cap-low}
 
 -- ---- one turn of read-in
@@ -43,18 +43,18 @@ module _ (s : List ℕ) (at end bound : ℕ) (fits : end ≤ length s) where
   pub not-marked : at ≤ end → Got 0 at ≡ number-of end (read-if false bound (slice at end s))
   not-marked h = rw (place-left s at end h fits)
 
-  pub no-group : end ≤ at → Broken ≡ number-of end (read-if true bound (slice at end s))
+  pub no-group : end ≤ at → Broken ≡ number-of end (read-below bound (slice at end s))
   no-group h = rw (no-bytes (slice at end s) (length-slice at end s fits ∙ omega arith))
 
-  pub one-group : at < end → getD s at 0 < 128 → getD s at 0 < bound → Got (getD s at 0) (at + 1) ≡ number-of end (read-if true bound (slice at end s))
+  pub one-group : at < end → getD s at 0 < 128 → getD s at 0 < bound → Got (getD s at 0) (at + 1) ≡ number-of end (read-below bound (slice at end s))
   one-group h l b =
       rw (slice-cons at end s 0 h fits, lt-ltb (getD s at 0) 128 l, lt-ltb (getD s at 0) bound b, ← add-one at, place-left s (at + 1) end (omega arith) fits)
 
-  pub one-too-large : at < end → getD s at 0 < 128 → bound ≤ getD s at 0 → Broken ≡ number-of end (read-if true bound (slice at end s))
+  pub one-too-large : at < end → getD s at 0 < 128 → bound ≤ getD s at 0 → Broken ≡ number-of end (read-below bound (slice at end s))
   one-too-large h l b = rw (slice-cons at end s 0 h fits, lt-ltb (getD s at 0) 128 l, le-ltb (getD s at 0) bound b)
 
   pub more-groups : at < end → 128 ≤ getD s at 0 → getD s at 0 < 256
-      → number-of end (below bound (over (getD s at 0 - 128) (read-in 3 (slice (at + 1) end s)))) ≡ number-of end (read-if true bound (slice at end s))
+      → number-of end (below bound (over (getD s at 0 - 128) (read-in 3 (slice (at + 1) end s)))) ≡ number-of end (read-below bound (slice at end s))
   more-groups h l b = rw (slice-cons at end s 0 h fits, le-ltb (getD s at 0) 128 l, lt-ltb (getD s at 0) 256 b, add-one)
 
 -- ---- the groups read so far, over those to come

@@ -1,18 +1,20 @@
 -- A record read number by number: after each number, the whole record is what is still to be read from the place after it.
 -- Assumes nothing.
-use Prim.Native.Nat.{ℕ, _+_, _-_, _^_, _<_, _≤_}
+use Prim.Native.Nat.{ℕ, suc, _+_, _-_, _^_, _<_, _≤_}
 use mathlib.Core.Path.{_≡_, refl, ap, sym, _∙_}
-use mathlib.Core.Bool.{Bool}
+use mathlib.Core.Bool.{Bool, true, false, cond}
 use mathlib.Core.Option.{Option}
-use mathlib.Core.List.{List}
+use mathlib.Core.List.{List, [], _∷_}
 use native.Mathlib.Omega.{arith}
-use lib.ListN.{length, take, length-append}
+use lib.Dec.{ltb}
+use lib.ListN.{length, getD, take, length-append}
 use lib.Seq.{slice, slice-cons, length-slice, drop-at, drop-drop}
+use borrow.Author.Tests.{ltb-true, ltb-false, le-ltb}
 use Rattle.trail.specs.declared.OldValues.{OldValues}
 use Rattle.trail.specs.declared.Newest.the-variants as newest
 use Rattle.trail.specs.declared.numbers.Number.{Number}
 use Rattle.trail.specs.declared.numbers.Number.the-variants.{Got, Broken}
-use Rattle.trail.specs.Numbers.{Read, got, broken, bytes-if, read-if, number-of}
+use Rattle.trail.specs.Numbers.{Read, got, broken, bytes-if, read-below, read-if, number-of}
 use Rattle.trail.specs.Newest.{and-then, at-end, read-from-marks, read-record, leaving}
 use Rattle.trail.proofs.NumbersReadBack.{read-if-only}
 use Rattle.trail.proofs.ReadingGroups.{no-bytes}
@@ -79,3 +81,36 @@ module _ {s : List ℕ} {start end at : ℕ} (g : Upto s start end at) (o : OldV
 
   pub done : end ≤ at → newest.Record o start ≡ leaving start (read-record (2 ^ 21) (slice start end s))
   done h = rw (g .whole, k, no-bytes (slice at end s) (length-slice at end s (g .fits) ∙ omega arith))
+
+-- ---- L, read as a number
+
+-- A number below 28 in one byte is that byte.
+one-byte : (b : ℕ) → read-below 28 (b ∷ []) ≡ cond (ltb b 28) (got b []) broken
+one-byte b = go (ltb b 128) (ltb b 256) refl refl
+  where
+    go : (t u : Bool) → ltb b 128 ≡ t → ltb b 256 ≡ u → read-below 28 (b ∷ []) ≡ cond (ltb b 28) (got b []) broken
+    go true u e f = rw e
+    go false true e f = rw (e, f, le-ltb b 28 (omega (arith, ltb-false b 128 e)))
+    go false false e f = rw (e, f, le-ltb b 28 (omega (arith, ltb-false b 128 e)))
+
+-- The last byte in use; r is what the code found for it.
+module _ (s : List ℕ) (used : ℕ) (h : 0 < used) (fits : used ≤ length s) {r : Number} (p : r ≡ number-of used (read-below 28 (slice (used - 1) used s))) where
+  last-byte : r ≡ number-of used (cond (ltb (getD s (used - 1) 0) 28) (got (getD s (used - 1) 0) []) broken)
+  last-byte =
+      let none : slice (suc (used - 1)) used s ≡ [] = no-bytes (slice (suc (used - 1)) used s) (length-slice (suc (used - 1)) used s fits ∙ omega arith) in
+      let one : slice (used - 1) used s ≡ getD s (used - 1) 0 ∷ [] = rw (slice-cons (used - 1) used s 0 (omega arith) fits, none) in
+      p ∙ rw (one, one-byte (getD s (used - 1) 0))
+
+  pub is-L : {n next : ℕ} → r ≡ Got n next → (getD s (used - 1) 0 ≡ n) × (n < 28)
+  is-L {n} {next} e = go (ltb (getD s (used - 1) 0) 28) refl (sym e ∙ last-byte)
+    where
+      go : (t : Bool) → ltb (getD s (used - 1) 0) 28 ≡ t → Got n next ≡ number-of used (cond t (got (getD s (used - 1) 0) []) broken) → (getD s (used - 1) 0 ≡ n) × (n < 28)
+      go true g q = let v : getD s (used - 1) 0 ≡ n = cc in (v, omega (arith, ltb-true (getD s (used - 1) 0) 28 g))
+      go false g q = let z : _≡_ {A = ℕ} 0 1 = cc in absurd (omega arith)
+
+  pub no-L : r ≡ Broken → 27 < getD s (used - 1) 0
+  no-L e = go (ltb (getD s (used - 1) 0) 28) refl (sym e ∙ last-byte)
+    where
+      go : (t : Bool) → ltb (getD s (used - 1) 0) 28 ≡ t → Broken ≡ number-of used (cond t (got (getD s (used - 1) 0) []) broken) → 27 < getD s (used - 1) 0
+      go true g q = let z : _≡_ {A = ℕ} 0 1 = cc in absurd (omega arith)
+      go false g q = omega (arith, ltb-false (getD s (used - 1) 0) 28 g)

@@ -2,6 +2,7 @@
 use machine::Place;
 
 pub mod numbers;
+pub mod reader;
 pub mod reading;
 pub mod records;
 

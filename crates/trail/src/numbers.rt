@@ -3,7 +3,7 @@ ghost use mathlib.Core.Path.{_≡_};
 ghost use Prim.Native.Nat.{_+_, _^_, _<_, _≤_};
 ghost use lib.ListN.{length};
 ghost use lib.Seq.{slice};
-ghost use Rattle.trail.specs.Numbers.{groups, bytes-if, over, below, read-in, read-if, number-of, Put};
+ghost use Rattle.trail.specs.Numbers.{groups, bytes-if, over, below, read-below, read-in, number-of, Put};
 
 // What reading a number finds: its value and the place after it, or that it is broken.
 pub enum Number {
@@ -38,14 +38,11 @@ pub(crate) fn put_if(marked: bool, bytes: &mut [u8; 28], at: usize, n: u32) -> u
     at
 }
 
-// The number below `bound` that stands at `at` and ends before `end`, if it is marked; else 0, and no byte is read.
-pub(crate) fn read_if(marked: bool, bytes: &[u8], at: usize, end: usize, bound: u64) -> Number
-    requires { ⌜ (at ≤ end) × (end ≤ length (now bytes)) × (bound ≤ 2 ^ 32) ⌝ }
-    ensures { λ r. ⌜ r ≡ number-of end (read-if marked bound (slice at end (now (bytes .entry)))) ⌝ }
+// The number below `bound` that stands at `at` and ends before `end`.
+pub(crate) fn number_at(bytes: &[u8], at: usize, end: usize, bound: u64) -> Number
+    requires { ⌜ (end ≤ length (now bytes)) × (bound ≤ 2 ^ 32) ⌝ }
+    ensures { λ r. ⌜ r ≡ number-of end (read-below bound (slice at end (now (bytes .entry)))) ⌝ }
 {
-    if !marked {
-        return Number::Got(0, at);
-    }
     if end <= at {
         return Number::Broken;
     }

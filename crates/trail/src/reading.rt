@@ -3,16 +3,19 @@ use crate::FIRST_PORT;
 use crate::Newest;
 use crate::OldValues;
 use crate::numbers::Number;
-use crate::numbers::read_if;
+use crate::reader::read_number;
 ghost use mathlib.Core.Path.{_≡_};
 ghost use Prim.Native.Nat.{_^_, _<_, _≤_};
 ghost use lib.ListN.{length};
 ghost use lib.Seq.{slice};
+ghost use Rattle.trail.specs.Numbers.{read-if, number-of};
 ghost use Rattle.trail.specs.Records.{where-of-number};
 ghost use Rattle.trail.specs.Newest.{leaving, read-record, newest-fitted};
 ghost use Rattle.trail.specs.Newest as definitions;
 
-// The bounds of a record's numbers: the marks, P, the number of a place, and a register or a word.
+// The bounds of what is read: L, the marks, P, the number of a place, and a register or a word.
+const LENGTHS: u64 = 28;
+
 const MARKS: u64 = 64;
 
 const ADDRESSES: u64 = 1_048_576;
@@ -20,6 +23,17 @@ const ADDRESSES: u64 = 1_048_576;
 const PLACES: u64 = 2_097_152;
 
 const WORDS: u64 = 4_294_967_296;
+
+// The number below `bound` that stands at `at` and ends before `end`, if it is marked; else 0, and no byte is read.
+fn read_if(marked: bool, bytes: &[u8], at: usize, end: usize, bound: u64) -> Number
+    requires { ⌜ (at ≤ end) × (end ≤ length (now bytes)) × (bound ≤ 2 ^ 32) ⌝ }
+    ensures { λ r. ⌜ r ≡ number-of end (read-if marked bound (slice at end (now (bytes .entry)))) ⌝ }
+{
+    if !marked {
+        return Number::Got(0, at);
+    }
+    read_number(bytes, at, end, bound)
+}
 
 // The record whose bytes before L stand from `start` to `end`.
 fn read_record(bytes: &[u8], start: usize, end: usize) -> Newest
@@ -80,11 +94,12 @@ pub fn newest(trail: &[u8], used: usize, main: usize, ports: usize) -> Newest
     ensures { λ r. ⌜ r ≡ newest-fitted main ports (now (trail .entry)) used ⌝ }
 {
     let end = used - 1;
-    let n = trail[end] as usize;
-    if n < 2 {
+    // The last byte in use is L. It is below 28, and so a number of one group.
+    let Number::Got(l, _) = read_number(trail, end, used, LENGTHS) else {
         return Newest::Broken;
-    }
-    if 27 < n {
+    };
+    let n = l as usize;
+    if n < 2 {
         return Newest::Broken;
     }
     if end < n {
