@@ -47,7 +47,7 @@ fn word_changed(main: &[u32], ports: &[u32], written: Written) -> Word
 }
 
 // Puts a value at a fitted place. No other function writes a word of a store.
-pub fn put_word(main: &mut [u32], ports: &mut [u32], place: Place, value: u32)
+pub(crate) fn put_word(main: &mut [u32], ports: &mut [u32], place: Place, value: u32)
     requires { ⌜ Fitted (ram (now main) (now ports)) (where-of place) ⌝ }
     ensures { λ _. ⌜ ram (now (main .exit)) (now (ports .exit)) ≡ with-word (ram (now (main .entry)) (now (ports .entry))) (where-of place) value ⌝ }
 {
@@ -74,7 +74,7 @@ fn write(main: &mut [u32], ports: &mut [u32], written: Written)
 }
 
 // Adds the record of a change to the trail and writes its word; where the record has no room, nothing is changed.
-pub fn finish(
+pub(crate) fn finish(
     m: Machine,
     c: Change,
     main: &mut [u32],

@@ -54,7 +54,7 @@ pub enum Plan {
     Unfitted,
 }
 
-pub fn fetch(main: &[u32], p: u32) -> Fetched
+pub(crate) fn fetch(main: &[u32], p: u32) -> Fetched
     ensures { λ r. ⌜ r ≡ fetched (now (main .entry)) p ⌝ }
 {
     let i = p as usize;
@@ -64,7 +64,7 @@ pub fn fetch(main: &[u32], p: u32) -> Fetched
     Fetched::Unfitted
 }
 
-pub fn decode(table: &[u8; 1024], m: Machine, w: u32) -> Decoded
+pub(crate) fn decode(table: &[u8; 1024], m: Machine, w: u32) -> Decoded
     requires { ⌜ Classified (now table) ⌝ }
     ensures { λ d. ⌜ Decodes m w d ⌝ }
 {
@@ -111,7 +111,7 @@ fn writable(words: usize, at: u32, r: u32) -> Operands
     Operands::Unfitted
 }
 
-pub fn operand(m: Machine, d: Decoded, main: &[u32], ports: &[u32]) -> Operands
+pub(crate) fn operand(m: Machine, d: Decoded, main: &[u32], ports: &[u32]) -> Operands
     requires { ⌜ m .p < 2 ^ 20 ⌝ }
     ensures { λ o. ⌜ o ≡ operands-of (part-of (d .part)) (d .fields) (d .address) (source-of m (d .fields)) (now (main .entry)) (now (ports .entry)) ⌝ }
 {
@@ -194,7 +194,7 @@ fn deliver(m: Machine, f: Fields, n: u32, t: AluResult) -> Machine
     }
 }
 
-pub fn execute(m: Machine, d: Decoded, r: u32, v: u32) -> Change
+pub(crate) fn execute(m: Machine, d: Decoded, r: u32, v: u32) -> Change
     requires { ⌜ m .p < 2 ^ 20 ⌝ }
     ensures { λ c. ⌜ c ≡ executed (part-of (d .part)) (d .fields) (d .address) m r v ⌝ }
 {
@@ -267,7 +267,7 @@ pub fn execute(m: Machine, d: Decoded, r: u32, v: u32) -> Change
 }
 
 // The four phases in a row.
-pub fn plan_step(table: &[u8; 1024], m: Machine, main: &[u32], ports: &[u32]) -> Plan
+pub(crate) fn plan_step(table: &[u8; 1024], m: Machine, main: &[u32], ports: &[u32]) -> Plan
     requires { ⌜ Classified (now table) ⌝ }
     requires { ⌜ (m .p < 2 ^ 20) × (m .stop ≡ false) ⌝ }
     ensures { λ r. ⌜ r ≡ planned (state m (ram (now (main .entry)) (now (ports .entry)))) ⌝ }
