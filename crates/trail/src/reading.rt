@@ -5,11 +5,11 @@ use crate::OldValues;
 use crate::numbers::Number;
 use crate::reader::read_number;
 ghost use mathlib.Core.Path.{_≡_};
-ghost use Prim.Native.Nat.{_^_, _<_, _≤_};
+ghost use Prim.Native.Nat.{_+_, _^_, _<_, _≤_};
 ghost use lib.ListN.{length};
 ghost use lib.Seq.{slice};
-ghost use Rattle.trail.specs.Numbers.{read-if, number-of};
 ghost use Rattle.trail.specs.Records.{where-of-number};
+ghost use Rattle.trail.specs.Finding.{found-of, read-at};
 ghost use Rattle.trail.specs.Newest.{leaving, read-record, newest-fitted};
 ghost use Rattle.trail.specs.Newest as definitions;
 
@@ -24,58 +24,56 @@ const PLACES: u64 = 2_097_152;
 
 const WORDS: u64 = 4_294_967_296;
 
-// The number below `bound` that stands at `at` and ends before `end`, if it is marked; else 0, and no byte is read.
-fn read_if(marked: bool, bytes: &[u8], at: usize, end: usize, bound: u64) -> Number
-    requires { ⌜ (at ≤ end) × (end ≤ length (now bytes)) × (bound ≤ 2 ^ 32) ⌝ }
-    ensures { λ r. ⌜ r ≡ number-of end (read-if marked bound (slice at end (now (bytes .entry)))) ⌝ }
-{
-    if !marked {
-        return Number::Got(0, at);
-    }
-    read_number(bytes, at, end, bound)
+// What reading a number of a record finds: its value, and the place after it, which is past the record's end if it is broken.
+struct Found {
+    n: u32,
+    next: usize,
 }
 
-// The record whose bytes before L stand from `start` to `end`.
+// The number below `bound` that stands at `at` and ends before `end`, if it is marked; else 0, and no byte is read.
+// Past the end nothing is read any more: after a broken number every place is past it.
+fn read_if(marked: bool, bytes: &[u8], at: usize, end: usize, bound: u64) -> Found
+    requires { ⌜ (at ≤ end + 1) × (end < length (now bytes)) × (bound ≤ 2 ^ 32) ⌝ }
+    ensures { λ r. ⌜ r ≡ found-of end (read-at at end (now (bytes .entry)) marked bound) ⌝ }
+{
+    if !marked {
+        return Found { n: 0, next: at };
+    }
+    let Number::Got(n, next) = read_number(bytes, at, end, bound) else {
+        return Found {
+            n: 0,
+            next: end + 1,
+        };
+    };
+    Found { n, next }
+}
+
+// The record whose bytes before L stand from `start` to `end`. Whether a number is broken is asked once, after the last.
 fn read_record(bytes: &[u8], start: usize, end: usize) -> Newest
-    requires { ⌜ (start ≤ end) × (end ≤ length (now bytes)) ⌝ }
+    requires { ⌜ (start ≤ end) × (end < length (now bytes)) ⌝ }
     ensures { λ r. ⌜ r ≡ leaving start (read-record (2 ^ 21) (slice start end (now (bytes .entry)))) ⌝ }
 {
     // Nothing stands before the marks.
-    let at_marks = start;
-    let Number::Got(m, at_p) = read_if(true, bytes, at_marks, end, MARKS) else {
-        return Newest::Broken;
-    };
-    let Number::Got(p, at_a) = read_if(true, bytes, at_p, end, ADDRESSES) else {
-        return Newest::Broken;
-    };
-    let Number::Got(a, at_x) = read_if(m / 1 % 2 == 1, bytes, at_a, end, WORDS) else {
-        return Newest::Broken;
-    };
-    let Number::Got(x, at_y) = read_if(m / 2 % 2 == 1, bytes, at_x, end, WORDS) else {
-        return Newest::Broken;
-    };
-    let Number::Got(y, at_place) = read_if(m / 4 % 2 == 1, bytes, at_y, end, WORDS) else {
-        return Newest::Broken;
-    };
-    let Number::Got(place, at_value) = read_if(m / 8 % 2 == 1, bytes, at_place, end, PLACES) else {
-        return Newest::Broken;
-    };
-    let Number::Got(value, last) = read_if(m / 8 % 2 == 1, bytes, at_value, end, WORDS) else {
-        return Newest::Broken;
-    };
-    if last < end {
-        return Newest::Broken;
+    let m = read_if(true, bytes, start, end, MARKS);
+    let p = read_if(true, bytes, m.next, end, ADDRESSES);
+    let a = read_if(m.n / 1 % 2 == 1, bytes, p.next, end, WORDS);
+    let x = read_if(m.n / 2 % 2 == 1, bytes, a.next, end, WORDS);
+    let y = read_if(m.n / 4 % 2 == 1, bytes, x.next, end, WORDS);
+    let place = read_if(m.n / 8 % 2 == 1, bytes, y.next, end, PLACES);
+    let value = read_if(m.n / 8 % 2 == 1, bytes, place.next, end, WORDS);
+    if value.next == end {
+        let o = OldValues {
+            marks: m.n,
+            p: p.n,
+            a: a.n,
+            x: x.n,
+            y: y.n,
+            place: place.n,
+            value: value.n,
+        };
+        return Newest::Record(o, start);
     }
-    let o = OldValues {
-        marks: m,
-        p,
-        a,
-        x,
-        y,
-        place,
-        value,
-    };
-    Newest::Record(o, start)
+    Newest::Broken
 }
 
 // Whether the place of this number is fitted, in stores of these lengths.

@@ -4,7 +4,7 @@ use native.Mathlib.Omega.{arith}
 use borrow.Author.Needs.{needs}
 use borrow.Author.Tests.{not-true, not-false}
 use denote.Ref.{now}
-use Rattle.trail.proofs.ReadingGroups.{not-marked}
+use Rattle.trail.proofs.ReadingNumbers.{finds-none, finds-broken, finds}
 use Rattle.trail.proofs.reading.read_if.Statement.{statement}
 use Rattle.trail.proofs.reading.read_if.Tie as tie
 
@@ -12,15 +12,33 @@ returns : tie.Need-returns
 returns c =
     let a = c .before .before .args in
     rw (not-true (a .marked) (c .if1 .taken))
-    (not-marked (now (a .bytes)) (a .at) (a .end) (a .bound) (omega arith) (omega arith))
+    (finds-none (now (a .bytes)) (a .at) (a .end) (a .bound) (omega arith) (omega arith))
 
 read-number-requires : tie.Need-read-number-requires
 read-number-requires c κs = search needs
 
+enum-known-n : tie.Need-enum-known-n
+enum-known-n c = search needs
+
+enum-told : tie.Need-enum-told
+enum-told c = search needs
+
+add-t10 : tie.Need-add-t10
+add-t10 c = search needs
+
 returns-2 : tie.Need-returns-2
 returns-2 c =
-    let a = c .before .before .before .args in
-    rw (not-false (a .marked) (c .before .if1 .left)) (c .read-number .ensures)
+    let a = c .before .before .before .before .before .args in
+    rw (not-false (a .marked) (c .before .before .before .if1 .left))
+    (finds-broken (now (a .bytes)) (a .at) (a .end) (a .bound) (omega arith) (c .enum-told .given .1) (c .before .before .read-number .ensures))
+
+returns-3 : tie.Need-returns-3
+returns-3 c =
+    let a = c .before .before .before .before .before .before .args in
+    rw (not-false (a .marked) (c .before .before .before .before .if1 .left))
+    (finds (now (a .bytes)) (a .at) (a .end) (a .bound) (omega arith) (c .before .n .given .1) (c .before .before .before .read-number .ensures))
 
 pub read-if-spec : {M : Type 1} → statement M
-read-if-spec = tie.close (tie.spec returns read-number-requires returns-2)
+read-if-spec =
+    tie.close
+    (tie.spec returns read-number-requires enum-known-n enum-told add-t10 returns-2 returns-3)
