@@ -47,13 +47,25 @@ pub(crate) fn number_at(bytes: &[u8], at: usize, end: usize, bound: u64) -> Numb
         return Number::Broken;
     }
     let b = bytes[at] as u64;
-    if b >= 128 {
-        return read_more(bytes, at + 1, end, b - 128, bound);
+    if b < 128 {
+        if b < bound {
+            return Number::Got(b as u32, at + 1);
+        }
+        return Number::Broken;
     }
-    if b < bound {
-        return Number::Got(b as u32, at + 1);
+    if bound <= 128 {
+        // Two groups or more come to 128 or more.
+        return Number::Broken;
     }
-    Number::Broken
+    if at + 1 < end {
+        // Two groups, the most common number after one: no loop.
+        let c = bytes[at + 1] as u64;
+        let n = b - 128 + 128 * c;
+        if (0 < c) & (c < 128) & (n < bound) {
+            return Number::Got(n as u32, at + 2);
+        }
+    }
+    read_more(bytes, at + 1, end, b - 128, bound)
 }
 
 // The same, from its second group on; the first gave `first`.
@@ -64,7 +76,6 @@ fn read_more(bytes: &[u8], at: usize, end: usize, first: u64, bound: u64) -> Num
     let mut next = at;
     let mut low = first;
     let mut scale: u64 = 128;
-    let mut more: u32 = 3;
     while next < end {
         let b = bytes[next] as u64;
         if b < 128 {
@@ -78,13 +89,12 @@ fn read_more(bytes: &[u8], at: usize, end: usize, first: u64, bound: u64) -> Num
             }
             return Number::Broken;
         }
-        if more == 0 {
-            // A sixth group.
+        if scale >= bound {
+            // One group more makes it too large.
             return Number::Broken;
         }
         low = low + scale * (b - 128);
         scale = scale * 128;
-        more -= 1;
         next += 1;
     }
     Number::Broken
