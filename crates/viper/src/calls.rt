@@ -338,6 +338,17 @@ fn word_restored(o: OldValues, main: &mut [u32], ports: &mut [u32])
     }
 }
 
+// What take back came to. Made in one place, so that the compiler keeps it in registers, whichever way out it leaves by.
+fn answered(machine: Machine, used: usize, answer: Answer) -> Outcome
+    ensures { λ r. ⌜ r ≡ record { machine = machine; used = used; answer = answer } ⌝ }
+{
+    Outcome {
+        machine,
+        used,
+        answer,
+    }
+}
+
 // Takes back the newest operation on the trail. No trail byte is written.
 pub fn take_back(
     m: Machine,
@@ -350,31 +361,15 @@ pub fn take_back(
 {
     let first = judge(m.p, main.len(), ports.len(), trail.len(), used);
     if let Answer::Refused(r) = first {
-        return Outcome {
-            machine: m,
-            used,
-            answer: Answer::Refused(r),
-        };
+        return answered(m, used, Answer::Refused(r));
     }
     if used == 0 {
-        return Outcome {
-            machine: m,
-            used,
-            answer: Answer::Refused(Refusal::NothingInUse),
-        };
+        return answered(m, used, Answer::Refused(Refusal::NothingInUse));
     }
     let Newest::Record(o, left) = trail::reading::newest(trail, used, main.len(), ports.len())
     else {
-        return Outcome {
-            machine: m,
-            used,
-            answer: Answer::Refused(Refusal::BrokenRecord),
-        };
+        return answered(m, used, Answer::Refused(Refusal::BrokenRecord));
     };
     word_restored(o, main, ports);
-    Outcome {
-        machine: machine_restored(o, m),
-        used: left,
-        answer: Answer::Done,
-    }
+    answered(machine_restored(o, m), left, Answer::Done)
 }
