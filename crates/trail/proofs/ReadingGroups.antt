@@ -12,7 +12,7 @@ use lib.ListN.{length, getD}
 use lib.Seq.{slice, slice-cons, length-slice}
 use borrow.Author.Tests.{ltb-true, ltb-false, lt-ltb, le-ltb, eq-eqb, ne-eqb}
 use Rattle.trail.specs.declared.numbers.Number.the-variants.{Got, Broken}
-use Rattle.trail.specs.Numbers.{Read, got, broken, over, read-in, below, read-below, read-if, number-of}
+use Rattle.trail.specs.Numbers.{Read, got, broken, over, read-in, below, read-below, number-of}
 use Rattle.trail.proofs.NumbersReadBack.{cap, cap-low}
 
 -- ---- one turn of read-in
