@@ -25,6 +25,10 @@ put-in-use trail used r h =
 
 -- ---- the copy
 
+-- The first n bytes of a record's array, as what was put there.
+pub first-bytes : (b : List ℕ) (n : ℕ) → n ≤ length b → Put 0 (take n b) b b n
+first-bytes b n h = record { place = omega (arith, length-take n b); bytes = refl; size = refl }
+
 -- Of the n bytes of b, the first i are copied.
 pub record Copying (old : List ℕ) (used : ℕ) (b : List ℕ) (n : ℕ) (new : List ℕ) (i : ℕ) : Type 0 where
   pub some : i ≤ n

@@ -3,6 +3,7 @@
 use Prim.Native.Nat.{ℕ, zero, suc, _+_, _*_, _/_, _^_, _<_, _≤_}
 use mathlib.Core.Path.{_≡_, refl}
 use mathlib.Core.Bool.{Bool, true, false}
+use mathlib.Core.List.{[], _∷_}
 use native.Mathlib.Omega.{arith}
 use lib.Dec.{ltb}
 use lib.ListN.{length, length-append}
@@ -77,6 +78,10 @@ body-length {places} {o} h g =
       omega (arith, groups-some (o .marks), groups-some (o .p)),
       omega (arith, sizes h g),
     )
+
+pub record-fits : {places : ℕ} {o : OldValues} → places ≤ 2 ^ 21 → Good places o → length (record-bytes o) ≤ 28
+unfolding record-bytes
+record-fits {places} {o} h g = rw (length-append (body o) (length (body o) ∷ [])) (omega (arith, body-length h g))
 
 -- Marks, P, five bytes for each register that is marked, eight for a word, and L.
 pub record-length : {places : ℕ} {o : OldValues} → places ≤ 2 ^ 21 → Good places o

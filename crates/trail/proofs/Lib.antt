@@ -9,6 +9,7 @@ pub mod Examples
 -- What the code's loops and ways out rest on.
 pub mod Putting
 pub mod Adding
+pub mod ShortRecords
 pub mod ReadingGroups
 pub mod ReadingNumbers
 -- What the walks of the functions over a trail reader rest on.

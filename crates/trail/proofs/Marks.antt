@@ -12,7 +12,8 @@ use Rattle.machine.specs.declared.Place.the-variants.{Main, Port}
 use Rattle.trail.specs.declared.Word.{Word}
 use Rattle.trail.specs.declared.Word.the-variants.{Kept, Changed}
 use Rattle.trail.specs.Numbers.{GoodIf}
-use Rattle.trail.specs.Records.{marked, differs, word-changed, word-place, word-value, marks-of, Addressed, Good, old-values}
+use Rattle.trail.specs.Records.{marked, differs, word-changed, word-place, word-value, marks-by, Addressed, Good, old-values}
+use Rattle.trail.specs.OneChange.{one-change}
 
 pub bit : (t : Bool) → BV t ≤ 1
 bit true = omega arith
@@ -22,34 +23,41 @@ odd : (t : Bool) (n : ℕ) → n % 2 ≡ BV t → eqb (n % 2) 1 ≡ t
 odd true n h = eq-eqb (n % 2) 1 h
 odd false n h = ne-eqb (n % 2) 1 (omega arith)
 
--- A, X, Y and the word are marked exactly when they changed.
-pub record Marks (old new : Machine) (w : Word) : Type 0 where
-  pub a : marked 1 (marks-of old new w) ≡ differs (old .a) (new .a)
-  pub x : marked 2 (marks-of old new w) ≡ differs (old .x) (new .x)
-  pub y : marked 4 (marks-of old new w) ≡ differs (old .y) (new .y)
-  pub word : marked 8 (marks-of old new w) ≡ word-changed w
-  pub b : marked 16 (marks-of old new w) ≡ old .b
-  pub stop : marked 32 (marks-of old new w) ≡ old .stop
-  pub few : marks-of old new w < 64
+-- Each mark is one bit of the sum.
+pub record Bits (ta tx ty tw tb ts : Bool) : Type 0 where
+  pub a : marked 1 (marks-by ta tx ty tw tb ts) ≡ ta
+  pub x : marked 2 (marks-by ta tx ty tw tb ts) ≡ tx
+  pub y : marked 4 (marks-by ta tx ty tw tb ts) ≡ ty
+  pub word : marked 8 (marks-by ta tx ty tw tb ts) ≡ tw
+  pub b : marked 16 (marks-by ta tx ty tw tb ts) ≡ tb
+  pub stop : marked 32 (marks-by ta tx ty tw tb ts) ≡ ts
+  pub few : marks-by ta tx ty tw tb ts < 64
 
-pub marks : (old new : Machine) (w : Word) → Marks old new w
-marks old new w =
-    let m : ℕ = marks-of old new w in
-    let h₁ = bit (differs (old .a) (new .a)) in
-    let h₂ = bit (differs (old .x) (new .x)) in
-    let h₃ = bit (differs (old .y) (new .y)) in
-    let h₄ = bit (word-changed w) in
-    let h₅ = bit (old .b) in
-    let h₆ = bit (old .stop) in
+pub bits : (ta tx ty tw tb ts : Bool) → Bits ta tx ty tw tb ts
+bits ta tx ty tw tb ts =
+    let m : ℕ = marks-by ta tx ty tw tb ts in
+    let h₁ = bit ta in
+    let h₂ = bit tx in
+    let h₃ = bit ty in
+    let h₄ = bit tw in
+    let h₅ = bit tb in
+    let h₆ = bit ts in
     record {
-      a = odd (differs (old .a) (new .a)) (m / 1) (omega arith);
-      x = odd (differs (old .x) (new .x)) (m / 2) (omega arith);
-      y = odd (differs (old .y) (new .y)) (m / 4) (omega arith);
-      word = odd (word-changed w) (m / 8) (omega arith);
-      b = odd (old .b) (m / 16) (omega arith);
-      stop = odd (old .stop) (m / 32) (omega arith);
+      a = odd ta (m / 1) (omega arith);
+      x = odd tx (m / 2) (omega arith);
+      y = odd ty (m / 4) (omega arith);
+      word = odd tw (m / 8) (omega arith);
+      b = odd tb (m / 16) (omega arith);
+      stop = odd ts (m / 32) (omega arith);
       few = omega arith;
     }
+
+-- A, X, Y and the word are marked exactly when they changed.
+abbrev pub Marks : Machine → Machine → Word → Type 0
+Marks old new w = Bits (differs (old .a) (new .a)) (differs (old .x) (new .x)) (differs (old .y) (new .y)) (word-changed w) (old .b) (old .stop)
+
+pub marks : (old new : Machine) (w : Word) → Marks old new w
+marks old new w = bits (differs (old .a) (new .a)) (differs (old .x) (new .x)) (differs (old .y) (new .y)) (word-changed w) (old .b) (old .stop)
 
 -- ---- the old values of an operation are such as a record can hold
 
@@ -87,4 +95,17 @@ old-values-good {old} new {w} s =
       y = rw (m .y) (good-if (differs (old .y) (new .y)) (2 ^ 32) (old .y) (s .y));
       place = rw (m .word) (good-place w (s .address));
       value = rw (m .word) (good-value w (s .value));
+    }
+
+pub one-change-good : (a x y : Bool) {old p : ℕ} (b s : Bool) (w : Word) → p < 2 ^ 20 → old < 2 ^ 32 → Addressed w → word-value w < 2 ^ 32 → Good (2 ^ 21) (one-change a x y old p b s w)
+one-change-good a x y {old} {p} b s w hp ho ha hv =
+    let m = bits a x y (word-changed w) b s in
+    record {
+      marks = m .few;
+      p = hp;
+      a = rw (m .a) (good-if a (2 ^ 32) old ho);
+      x = rw (m .x) (good-if x (2 ^ 32) old ho);
+      y = rw (m .y) (good-if y (2 ^ 32) old ho);
+      place = rw (m .word) (good-place w ha);
+      value = rw (m .word) (good-value w hv);
     }

@@ -1,4 +1,5 @@
 pub mod Numbers
 pub mod Records
+pub mod OneChange
 pub mod Newest
 pub mod Finding

@@ -86,14 +86,13 @@ abbrev pub Addressed : Word → Type 0
 Addressed Kept = Unit {0}
 Addressed (Changed q v) = where-of q .1 < 2 ^ 20
 
+-- The marks, by what changed and by the old flags.
+abbrev pub marks-by : Bool → Bool → Bool → Bool → Bool → Bool → ℕ
+marks-by a x y word b stop = 1 * BV a + 2 * BV x + 4 * BV y + 8 * BV word + 16 * BV b + 32 * BV stop
+
 abbrev pub marks-of : Machine → Machine → Word → ℕ
 marks-of old new w =
-    1 * BV (differs (old .a) (new .a))
-    + 2 * BV (differs (old .x) (new .x))
-    + 4 * BV (differs (old .y) (new .y))
-    + 8 * BV (word-changed w)
-    + 16 * BV (old .b)
-    + 32 * BV (old .stop)
+    marks-by (differs (old .a) (new .a)) (differs (old .x) (new .x)) (differs (old .y) (new .y)) (word-changed w) (old .b) (old .stop)
 
 -- A value that changed; 0 for one that did not.
 abbrev pub old-if-changed : ℕ → ℕ → ℕ

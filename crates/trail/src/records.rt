@@ -8,11 +8,14 @@ use crate::numbers::put_number;
 use machine::Machine;
 use machine::Place;
 ghost use mathlib.Core.Path.{_≡_};
+ghost use mathlib.Core.Bool.{cond};
 ghost use Prim.Native.Nat.{_*_, _^_, _<_, _≤_};
-ghost use lib.ListN.{length};
+ghost use lib.ListN.{length, take};
 ghost use Rattle.report.specs.AnnexA.{BV};
 ghost use Rattle.machine.specs.Held.{where-of};
 ghost use Rattle.trail.specs.Numbers.{Put};
+ghost use Rattle.trail.specs.OneChange.{five, registers-kept, register-changed, Register};
+ghost use Rattle.trail.specs.declared.Word.the-variants.{Kept, Changed};
 ghost use Rattle.trail.specs.Records.{Addressed, Good, added, old-if-changed, old-values, place-number, record-bytes, word-changed, word-place, word-value};
 
 // A record, made whole before room is judged: the first `len` bytes of `bytes`.
@@ -115,7 +118,23 @@ fn fill(bytes: &mut [u8; 28], o: OldValues) -> usize
     n + 1
 }
 
-// Adds a record right after the bytes in use. It is the only function that writes a byte of the trail.
+// Copies a record right after the bytes in use. It is the only function that writes a byte of the trail.
+fn copy(trail: &mut [u8], used: usize, bytes: &[u8; 28], n: usize) -> Added
+    requires { ⌜ (used ≤ length (now trail)) × (n ≤ 28) × (length (now bytes) ≡ 28) ⌝ }
+    ensures { λ r. ⌜ (r, now (trail .exit)) ≡ added (now (trail .entry)) used (take n (now (bytes .entry))) ⌝ }
+{
+    if trail.len() - used < n {
+        return Added::Full;
+    }
+    let mut i = 0;
+    while i < n {
+        trail[used + i] = bytes[i];
+        i += 1;
+    }
+    Added::Used(used + n)
+}
+
+// Adds the record of any old values.
 pub fn add(trail: &mut [u8], used: usize, o: OldValues) -> Added
     requires { ⌜ (used ≤ length (now trail)) × Good (2 ^ 21) o ⌝ }
     ensures { λ r. ⌜ (r, now (trail .exit)) ≡ added (now (trail .entry)) used (record-bytes o) ⌝ }
@@ -125,14 +144,122 @@ pub fn add(trail: &mut [u8], used: usize, o: OldValues) -> Added
         len: 0,
     };
     r.len = fill(&mut r.bytes, o);
-    let n = r.len;
-    if trail.len() - used < n {
-        return Added::Full;
+    copy(trail, used, &r.bytes, r.len)
+}
+
+// The records of steps, most of which change no word and at most one register. What they add is what `add` would; the short ones are made
+// without a loop.
+
+// A record of at most five bytes.
+fn short(len: usize, b0: u8, b1: u8, b2: u8, b3: u8, b4: u8) -> Record
+    ensures { λ r. ⌜ (r .bytes ≡ five b0 b1 b2 b3 b4) × (r .len ≡ len) ⌝ }
+{
+    let mut bytes = [0u8; 28];
+    bytes[0] = b0;
+    bytes[1] = b1;
+    bytes[2] = b2;
+    bytes[3] = b3;
+    bytes[4] = b4;
+    Record { bytes, len }
+}
+
+// Adds the record of an operation that changed no register and no word.
+pub fn add_flags(trail: &mut [u8], used: usize, p: u32, b: bool, stop: bool) -> Added
+    requires { ⌜ (used ≤ length (now trail)) × (p < 2 ^ 20) ⌝ }
+    ensures { λ r. ⌜ (r, now (trail .exit)) ≡ added (now (trail .entry)) used (record-bytes (registers-kept p b stop Kept)) ⌝ }
+{
+    let marks = weight(b, 16) + weight(stop, 32);
+    if p < 128 {
+        let r = short(3, marks as u8, p as u8, 2, 0, 0);
+        return copy(trail, used, &r.bytes, r.len);
     }
-    let mut i = 0;
-    while i < n {
-        trail[used + i] = r.bytes[i];
-        i += 1;
+    if p < 16384 {
+        let r = short(4, marks as u8, (128 + p % 128) as u8, (p / 128) as u8, 3, 0);
+        return copy(trail, used, &r.bytes, r.len);
     }
-    Added::Used(used + n)
+    let o = OldValues {
+        marks,
+        p,
+        a: 0,
+        x: 0,
+        y: 0,
+        place: 0,
+        value: 0,
+    };
+    add(trail, used, o)
+}
+
+// Adds the record of an operation that changed one register, whose mark weighs w, and no word.
+pub fn add_register(
+    trail: &mut [u8],
+    used: usize,
+    w: u32,
+    p: u32,
+    b: bool,
+    stop: bool,
+    old: u32,
+) -> Added
+    requires { ⌜ (used ≤ length (now trail)) × (p < 2 ^ 20) × Register w ⌝ }
+    ensures { λ r. ⌜ (r, now (trail .exit)) ≡ added (now (trail .entry)) used (record-bytes (register-changed w p b stop old)) ⌝ }
+{
+    let marks = w + (weight(b, 16) + weight(stop, 32));
+    if old < 128 {
+        if p < 128 {
+            let r = short(4, marks as u8, p as u8, old as u8, 3, 0);
+            return copy(trail, used, &r.bytes, r.len);
+        }
+        if p < 16384 {
+            let r = short(
+                5,
+                marks as u8,
+                (128 + p % 128) as u8,
+                (p / 128) as u8,
+                old as u8,
+                4,
+            );
+            return copy(trail, used, &r.bytes, r.len);
+        }
+    }
+    let o = OldValues {
+        marks,
+        p,
+        a: value_if(w == 1, old),
+        x: value_if(w == 2, old),
+        y: value_if(w == 4, old),
+        place: 0,
+        value: 0,
+    };
+    add(trail, used, o)
+}
+
+// A value that is marked; 0 for one that is not.
+fn value_if(marked: bool, v: u32) -> u32
+    ensures { λ r. ⌜ r ≡ cond marked v 0 ⌝ }
+{
+    if marked { v } else { 0 }
+}
+
+// Adds the record of an operation that changed one word and no register.
+pub fn add_word(
+    trail: &mut [u8],
+    used: usize,
+    p: u32,
+    b: bool,
+    stop: bool,
+    place: Place,
+    old: u32,
+) -> Added
+    requires { ⌜ (used ≤ length (now trail)) × (p < 2 ^ 20) × (where-of place .1 < 2 ^ 20) ⌝ }
+    ensures { λ r. ⌜ (r, now (trail .exit)) ≡ added (now (trail .entry)) used (record-bytes (registers-kept p b stop (Changed place old))) ⌝ }
+{
+    let o = OldValues {
+        marks: 8 + (weight(b, 16) + weight(stop, 32)),
+        p,
+        a: 0,
+        x: 0,
+        y: 0,
+        place: place_number(place),
+        value: old,
+    };
+    add(trail, used, o)
 }

@@ -1,0 +1,43 @@
+-- The old values of an operation that changes at most one register or one word, as every step does.
+-- That they are its `old-values` is in the crate viper, proofs/Finishing.antt.
+-- Assumes nothing.
+use Prim.Native.Nat.{ℕ}
+use mathlib.Core.Bool.{Bool, false, cond}
+use mathlib.Core.List.{List, _∷_}
+use lib.Dec.{eqb}
+use lib.ListN.{replicate}
+use Rattle.trail.specs.declared.OldValues.{OldValues}
+use Rattle.trail.specs.declared.Word.{Word}
+use Rattle.trail.specs.declared.Word.the-variants.{Kept}
+use Rattle.trail.specs.Records.{marks-by, word-changed, word-place, word-value}
+
+-- By which of A, X and Y changed, and their old value.
+abbrev pub one-change : Bool → Bool → Bool → ℕ → ℕ → Bool → Bool → Word → OldValues
+one-change a x y old p b stop w =
+    record {
+      marks = marks-by a x y (word-changed w) b stop;
+      p = p;
+      a = cond a old 0;
+      x = cond x old 0;
+      y = cond y old 0;
+      place = word-place w;
+      value = word-value w;
+    }
+
+-- No register changed, and perhaps a word.
+abbrev pub registers-kept : ℕ → Bool → Bool → Word → OldValues
+registers-kept = one-change false false false 0
+
+-- The weights of the marks of A, X and Y.
+pub data Register : ℕ → Type 0 where
+  is-a : Register 1
+  is-x : Register 2
+  is-y : Register 4
+
+-- One register changed, and no word.
+abbrev pub register-changed : ℕ → ℕ → Bool → Bool → ℕ → OldValues
+register-changed w p b stop old = one-change (eqb w 1) (eqb w 2) (eqb w 4) old p b stop Kept
+
+-- Five bytes at the head of a record's array.
+abbrev pub five : ℕ → ℕ → ℕ → ℕ → ℕ → List ℕ
+five b0 b1 b2 b3 b4 = b0 ∷ b1 ∷ b2 ∷ b3 ∷ b4 ∷ replicate 23 0
