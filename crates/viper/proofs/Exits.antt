@@ -33,11 +33,11 @@ use Rattle.viper.specs.declared.Answer.the-variants.{Done, Refused}
 use Rattle.viper.specs.declared.RunAnswer.the-variants as run-answer
 use Rattle.viper.specs.Refusals.{when, or-else, lowest}
 use Rattle.viper.specs.Phases.{step-unfitted, lacks}
+use Rattle.viper.proofs.Stores.{fitted-low, view-one}
 use Rattle.viper.specs.Operations.{Bench, Operation, step, reset, force, set-word, operate, run, back, Call, lends-stores, next, applies, answer, record-for, done, broken, newest-of, Outcome, outcome}
 use Rattle.viper.specs.TakingBack.{put-back, back-outcome}
 use Rattle.viper.specs.Runs.{Ran, ending-of, over-and-over, RunOutcome, run-outcome}
-use Rattle.viper.specs.declared.phases.Written.{Written}
-use Rattle.viper.specs.declared.phases.Written.the-variants as write
+use Rattle.viper.specs.Phases as write
 use Rattle.viper.specs.Views.{view-fitted}
 use Rattle.viper.specs.Finishing.{Fitted, left, Finish, finished, rewritten}
 use Rattle.viper.specs.Noting.{noted, noted-by, stores-restored, Refits}
@@ -210,22 +210,9 @@ module _ (m after : Machine) (r : Mem) (trail : List ℕ) (used : ℕ) where
 
 -- ---- set a word
 
-fitted-low : (main ports : List ℕ) (w : Where) → length main ≤ 2 ^ 20 → length ports ≤ 2 ^ 20 → fitted (ram main ports) w ≡ true → w .1 < 2 ^ 20
-unfolding fitted
-fitted-low main ports (true, n) hm hp e = omega (arith, ltb-true n (length ports) e)
-fitted-low main ports (false, n) hm hp e = omega (arith, ltb-true n (length main) e)
-
 place-where : (q : Place) → place-of (where-of q) ≡ q
 place-where (place.Main n) = refl
 place-where (place.Port n) = refl
-
-one-fits : (a words : ℕ) → leb (a + 1) words ≡ ltb a words
-one-fits a words = ap (λ (n : ℕ). leb n words) (omega arith)
-
-pub view-one : (main ports : List ℕ) (q : Place) → view-fitted (length main) (length ports) q 1 ≡ fitted (ram main ports) (where-of q)
-unfolding fitted
-view-one main ports (place.Main n) = one-fits (n .0) (length main)
-view-one main ports (place.Port n) = one-fits (n .0) (length ports)
 
 module _ (m : Machine) (main ports trail : List ℕ) (used : ℕ) (q : Place) (v : ℕ) where
   abbrev bs : Bench

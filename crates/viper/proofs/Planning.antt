@@ -24,15 +24,11 @@ use Rattle.instruction.specs.Fields.{Fielded}
 use Rattle.instruction.specs.declared.Fields.{Fields}
 use Rattle.viper.specs.declared.phases.Operands.{Operands}
 use Rattle.viper.specs.declared.phases.Operands.the-variants.{Held, Unfitted}
-use Rattle.viper.specs.declared.phases.Written.{Written}
-use Rattle.viper.specs.declared.phases.Written.the-variants.{Nothing, Word}
-use Rattle.viper.specs.declared.phases.Change.{Change}
-use Rattle.viper.specs.declared.phases.Plan.{Plan}
-use Rattle.viper.specs.declared.phases.Plan.the-variants as plan
+use Rattle.viper.specs.Phases as plan
 use Rattle.instruction.specs.PartOf.{part-of}
 use Rattle.viper.specs.declared.phases.Decoded.{Decoded}
 use Rattle.viper.specs.declared.phases.Fetched.the-variants as fetch
-use Rattle.viper.specs.Phases.{fetched, Decodes, next-p, source-of, read-from, constant-or, write-to, operands-of, with-flags, delivered, alone, executed, lacks, step-unfitted, writing, change-of, planned}
+use Rattle.viper.specs.Phases.{Written, Nothing, Word, Change, Plan, fetched, Decodes, next-p, source-of, read-from, constant-or, write-to, operands-of, with-flags, delivered, alone, executed, lacks, step-unfitted, writing, change-of, planned}
 
 -- ---- tests that exclude each other, over the 1,024 classes
 
@@ -119,7 +115,7 @@ delivered-is m w r (v, b, s) h = go (eqb (dsf w) 0) (eqb (dsf w) 1) (eqb (dsf w)
 -- what the operands give
 abbrev pub plan-from : Part → Fields → ℕ → Machine → Operands → Plan
 plan-from k f at m (Held r v) = plan.Go (executed k f at m r v)
-plan-from k f at m Unfitted = plan.Unfitted
+plan-from k f at m Unfitted = plan.Lacking
 
 module _ (m : Machine) (main ports : List ℕ) (g : InRange (state m (ram main ports))) (live : m .stop ≡ false) (hp : m .p < length main) where
   abbrev board : Mem
@@ -167,7 +163,7 @@ module _ (m : Machine) (main ports : List ℕ) (g : InRange (state m (ram main p
 
   -- the plan of a part
   planned-at : (k : Part) → At k → planned s
-      ≡ cond (lacks board (reads-by k w (m .x) (m .y)) || lacks board (writes-by k w (m .x) (m .y))) plan.Unfitted
+      ≡ cond (lacks board (reads-by k w (m .x) (m .y)) || lacks board (writes-by k w (m .x) (m .y))) plan.Lacking
       (plan.Go (record { machine = machine-of (after-by k w s); written = writing (writes-by k w (m .x) (m .y)) (after-by k w s .0) }))
   unfolding planned step-unfitted
   planned-at k a = rw (fetches, a .next, a .read-is, a .written-is)
@@ -216,7 +212,7 @@ module _ (m : Machine) (main ports : List ℕ) (g : InRange (state m (ram main p
     where
       go : (z : Bool) → eqb (msf w) 0 ≡ z → (t : Bool) → ltb at (length main) ≡ t
           → plan-from compares f at m (cond z (Held r (addr w)) (cond t (Held r (getD main at 0)) Unfitted))
-          ≡ cond (lacks board (unless z (place-by false w (m .x) (m .y))) || false) plan.Unfitted
+          ≡ cond (lacks board (unless z (place-by false w (m .x) (m .y))) || false) plan.Lacking
           (plan.Go (record { machine = with-flags m (compared (fsf w) r (operand board false false w (m .x) (m .y)) (m .b)) false; written = Nothing }))
       go true z t u = ap (λ (b : Bool). plan.Go (alone (with-flags m b false))) (tested (addr w) (constant false z))
       go false z true u =
@@ -240,7 +236,7 @@ module _ (m : Machine) (main ports : List ℕ) (g : InRange (state m (ram main p
 
       go : (o : Bool) → eqb (dsf w) 6 ≡ o → (t : Bool) → ltb at (length ports) ≡ t → (u : Bool) → ltb at (length main) ≡ u
           → plan-from writes f at m (cond o (write-to (length ports) at r) (write-to (length main) at r))
-          ≡ cond (false || lacks board (some (place-by o w (m .x) (m .y)))) plan.Unfitted
+          ≡ cond (false || lacks board (some (place-by o w (m .x) (m .y)))) plan.Lacking
           (plan.Go (record { machine = with-flags m (m .b) false; written = writing (some (place-by o w (m .x) (m .y))) (with-word board (place-by o w (m .x) (m .y)) r) }))
       go true d true e₁ u e₂ = rw (lacks-port near, e₁, d) (ap stored (kept true near e₁))
       go true d false e₁ u e₂ = rw (lacks-port near, e₁)
@@ -273,7 +269,7 @@ module _ (m : Machine) (main ports : List ℕ) (g : InRange (state m (ram main p
 
       go : (z : Bool) → of shift w ≡ z → (io k : Bool) → eqb (msf w) 0 ≡ k
           → plan-from computes f at m (cond z (Held r 0) (cond io (constant-or f ports at r) (constant-or f main at r)))
-          ≡ cond (lacks board (unless (z || k) (place-by io w (m .x) (m .y))) || false) plan.Unfitted
+          ≡ cond (lacks board (unless (z || k) (place-by io w (m .x) (m .y))) || false) plan.Lacking
           (plan.Go (alone (machine-of (placed (dsf w) (fsf w) board (m .p) (m .a) (m .x) (m .y) (computed (fsf w) (msf w) (to-p (dsf w)) r (operand board z io w (m .x) (m .y)) (m .b))))))
       go true z io k y = ap plan.Go (result 0 true io low (no-operand io))
       go false z io true y = rw y (constants io)
@@ -285,13 +281,13 @@ module _ (m : Machine) (main ports : List ℕ) (g : InRange (state m (ram main p
       go false z true false y = rw (y, lacks-port (near z)) (port (ltb at (length ports)))
         where
           port : (t : Bool) → plan-from computes f at m (cond t (Held r (getD ports at 0)) Unfitted)
-              ≡ cond (not t || false) plan.Unfitted (plan.Go (alone (machine-of (placed (dsf w) (fsf w) board (m .p) (m .a) (m .x) (m .y) (computed (fsf w) (msf w) (to-p (dsf w)) r (operand board false true w (m .x) (m .y)) (m .b))))))
+              ≡ cond (not t || false) plan.Lacking (plan.Go (alone (machine-of (placed (dsf w) (fsf w) board (m .p) (m .a) (m .x) (m .y) (computed (fsf w) (msf w) (to-p (dsf w)) r (operand board false true w (m .x) (m .y)) (m .b))))))
           port true = ap plan.Go (result (getD ports at 0) false true low (from-ports (near z) y))
           port false = refl
       go false z false false y = rw (y, lacks-main (near z)) (word (ltb at (length main)))
         where
           word : (t : Bool) → plan-from computes f at m (cond t (Held r (getD main at 0)) Unfitted)
-              ≡ cond (not t || false) plan.Unfitted (plan.Go (alone (machine-of (placed (dsf w) (fsf w) board (m .p) (m .a) (m .x) (m .y) (computed (fsf w) (msf w) (to-p (dsf w)) r (operand board false false w (m .x) (m .y)) (m .b))))))
+              ≡ cond (not t || false) plan.Lacking (plan.Go (alone (machine-of (placed (dsf w) (fsf w) board (m .p) (m .a) (m .x) (m .y) (computed (fsf w) (msf w) (to-p (dsf w)) r (operand board false false w (m .x) (m .y)) (m .b))))))
           word true = ap plan.Go (result (getD main at 0) false false low (from-main (near z) y))
           word false = refl
 
@@ -337,7 +333,7 @@ phases-plan m main ports d g live hp e =
     rw (a, taken-is w (d .fields) (e .fields)) (by-tests m main ports g live hp (part-of (d .part)) (sym q))
 
 -- the word at P is not fitted
-pub unfetched : (m : Machine) (main ports : List ℕ) → length main ≤ m .p → plan.Unfitted ≡ planned (state m (ram main ports))
+pub unfetched : (m : Machine) (main ports : List ℕ) → length main ≤ m .p → plan.Lacking ≡ planned (state m (ram main ports))
 unfolding planned step-unfitted fitted
 unfetched m main ports h = rw (le-ltb (m .p) (length main) h)
 
@@ -351,10 +347,10 @@ was-fetched main p w e = go (ltb p (length main)) refl e
     go true h q = (ltb-true p (length main) h, cc)
     go false h q = let z : _≡_ {A = ℕ} 0 1 = cc in absurd (omega arith)
 
-pub not-fetched : (m : Machine) (main ports : List ℕ) → fetched main (m .p) ≡ fetch.Unfitted → plan.Unfitted ≡ planned (state m (ram main ports))
+pub not-fetched : (m : Machine) (main ports : List ℕ) → fetched main (m .p) ≡ fetch.Unfitted → plan.Lacking ≡ planned (state m (ram main ports))
 not-fetched m main ports e = go (ltb (m .p) (length main)) refl e
   where
-    go : (t : Bool) → ltb (m .p) (length main) ≡ t → cond t (fetch.Word (getD main (m .p) 0)) fetch.Unfitted ≡ fetch.Unfitted → plan.Unfitted ≡ planned (state m (ram main ports))
+    go : (t : Bool) → ltb (m .p) (length main) ≡ t → cond t (fetch.Word (getD main (m .p) 0)) fetch.Unfitted ≡ fetch.Unfitted → plan.Lacking ≡ planned (state m (ram main ports))
     go true h q = let z : _≡_ {A = ℕ} 0 1 = cc in absurd (omega arith)
     go false h q = unfetched m main ports (ltb-false (m .p) (length main) h)
 
@@ -367,7 +363,7 @@ module _ (m : Machine) (main ports : List ℕ) (w : ℕ) (d : Decoded) (g : InRa
       rw q (phases-plan m main ports d g live (f .0) (rw (f .1) at h))
 
   pub no-operands : (o : Operands) → o ≡ operands-of (part-of (d .part)) (d .fields) (d .address) (source-of m (d .fields)) main ports → o ≡ Unfitted
-      → plan.Unfitted ≡ planned (state m (ram main ports))
+      → plan.Lacking ≡ planned (state m (ram main ports))
   no-operands o q z = rw z at (planned-from o q)
 
   pub executed-plan : (o : Operands) (r v : ℕ) (c : Change) → o ≡ operands-of (part-of (d .part)) (d .fields) (d .address) (source-of m (d .fields)) main ports

@@ -24,17 +24,15 @@ use Rattle.trail.specs.Records.{record-of, record-bytes, old-values, old-values
 use Rattle.trail.specs.declared.Added.{Added}
 use Rattle.trail.specs.declared.Added.the-variants as added·is
 use Rattle.trail.proofs.Adding.{put-length}
-use Rattle.viper.specs.declared.phases.Written.{Written}
-use Rattle.viper.specs.declared.phases.Written.the-variants as write
-use Rattle.viper.specs.declared.phases.Change.{Change}
-use Rattle.viper.specs.declared.phases.Plan.{Plan}
-use Rattle.viper.specs.declared.phases.Plan.the-variants as plan
+use Rattle.viper.specs.Phases as phases
 use Rattle.viper.specs.declared.Answer.{Answer}
 use Rattle.viper.specs.declared.Answer.the-variants.{Done, Refused}
 use Rattle.viper.specs.declared.Refusal.{Refusal}
 use Rattle.viper.specs.declared.Refusal.the-variants as refusal
-use Rattle.viper.specs.Phases.{lacks, step-unfitted, writing, change-of, planned}
-use Rattle.viper.specs.Finishing.{Fitted, Addressed, changing, rewritten, left, Finish, finishing, finished}
+use Rattle.viper.specs.Phases.{Written, Change, Plan, lacks, step-unfitted, writing, change-of, planned}
+use Rattle.viper.specs.Finishing.{Fitted, Addressed, changing, rewritten, left, Finish, finishing, finished, End, ended, answered-by, by-plan, once}
+use Rattle.viper.specs.declared.finish.Stepped.{Stepped as AfterStep}
+use Rattle.viper.specs.declared.finish.Stepped.the-variants as stepped·is
 use Rattle.viper.specs.Operations.{Bench, Operation, step, next, writes-at, record-for, operate, applies, answer, done}
 use Rattle.viper.specs.Runs.{Ran, ends, one-more, ending-of, unless-stopped, stepped as by-answer, over-and-over}
 use Rattle.viper.specs.Judging.{Lawful}
@@ -150,26 +148,26 @@ module _ (m : Machine) (main ports trail : List ℕ) (used : ℕ) (l : Lawful (m
   b = bench m main ports trail used
 
   -- what was planned
-  pub planned-none : plan.Unfitted ≡ planned s → answer (operate step) b ≡ Refused refusal.Unfitted
+  pub planned-none : phases.Lacking ≡ planned s → answer (operate step) b ≡ Refused refusal.Unfitted
   unfolding planned
   planned-none e = answer-is m main ports trail used l live ∙ go (step-unfitted s) e
     where
-      go : (u : Bool) → plan.Unfitted ≡ cond u plan.Unfitted (plan.Go (change-of s)) → cond u (Refused refusal.Unfitted) (cond (ltb (length trail - used) (length (record-for step s))) (Refused refusal.TrailFull) Done) ≡ Refused refusal.Unfitted
+      go : (u : Bool) → phases.Lacking ≡ cond u phases.Lacking (phases.Go (change-of s)) → cond u (Refused refusal.Unfitted) (cond (ltb (length trail - used) (length (record-for step s))) (Refused refusal.TrailFull) Done) ≡ Refused refusal.Unfitted
       go true q = refl
       go false q = let z : _≡_ {A = ℕ} 0 1 = cc in absurd (omega arith)
 
-  module _ (c : Change) (e : plan.Go c ≡ planned s) where
+  module _ (c : Change) (e : phases.Go c ≡ planned s) where
     fits : step-unfitted s ≡ false
     unfolding planned
     fits = go (step-unfitted s) refl e
       where
-        go : (u : Bool) → step-unfitted s ≡ u → plan.Go c ≡ cond u plan.Unfitted (plan.Go (change-of s)) → step-unfitted s ≡ false
+        go : (u : Bool) → step-unfitted s ≡ u → phases.Go c ≡ cond u phases.Lacking (phases.Go (change-of s)) → step-unfitted s ≡ false
         go true h q = let z : _≡_ {A = ℕ} 0 1 = cc in absurd (omega arith)
         go false h q = h
 
     pub change-is : c ≡ change-of s
     unfolding planned
-    change-is = let q : plan.Go c ≡ plan.Go (change-of s) = rw fits at e in cc
+    change-is = let q : phases.Go c ≡ phases.Go (change-of s) = rw fits at e in cc
 
     -- the place that is written is fitted
     no-lack : lacks (ram main ports) (written s) ≡ false
@@ -323,12 +321,28 @@ put-size r (true, n) v = (refl, length-set (r .ports) n v)
 put-size r (false, n) v = (length-set (r .main) n v, refl)
 
 written-size : (r : Mem) (w : Written) → (length (rewritten r w .main) ≡ length (r .main)) × (length (rewritten r w .ports) ≡ length (r .ports))
-written-size r write.Nothing = (refl, refl)
-written-size r (write.Word q v) = put-size r (where-of q) v
+written-size r phases.Nothing = (refl, refl)
+written-size r (phases.Word q v) = put-size r (where-of q) v
 
 pub same-bench : {s₁ s₂ : State} {t₁ t₂ : List ℕ} {n₁ n₂ : ℕ} → s₁ ≡ s₂ → t₁ ≡ t₂ → n₁ ≡ n₂
     → _≡_ {A = Bench} (record { state = s₁; trail = t₁; used = n₁ }) (record { state = s₂; trail = t₂; used = n₂ })
 same-bench e f g = cc
+
+-- what `answered-by` tells
+not-unfitted : (m : Machine) (x : Added) → stepped·is.Unfitted ≡ answered-by m x → ⊥
+not-unfitted m added·is.Full e = let n : _≡_ {A = ℕ} 0 1 = cc in omega arith
+not-unfitted m (added·is.Used k) e = let n : _≡_ {A = ℕ} 0 1 = cc in omega arith
+
+was-full : (m : Machine) (x : Added) → stepped·is.Full ≡ answered-by m x → x ≡ added·is.Full
+was-full m added·is.Full e = refl
+was-full m (added·is.Used k) e = let n : _≡_ {A = ℕ} 0 1 = cc in absurd (omega arith)
+
+was-done : (m : Machine) (x : Added) (m′ : Machine) (n : ℕ) → stepped·is.Done m′ n ≡ answered-by m x → (x ≡ added·is.Used n) × (m′ ≡ m)
+was-done m added·is.Full m′ n e = let k : _≡_ {A = ℕ} 0 1 = cc in absurd (omega arith)
+was-done m (added·is.Used k) m′ n e = (cc, cc)
+
+same-finish : {a a′ : Added} {r r′ : Mem} {t t′ : List ℕ} → a ≡ a′ → r ≡ r′ → t ≡ t′ → left a r t ≡ left a′ r′ t′
+same-finish e f g = cc
 
 module _ {main₀ ports₀ trail₀ : List ℕ} {m₀ : Machine} {used budget : ℕ} {main ports trail : List ℕ} {m : Machine} {count steps : ℕ}
     (k : Going main₀ ports₀ trail₀ m₀ used budget main ports trail m count steps) (live : m .stop ≡ false) where
@@ -339,13 +353,13 @@ module _ {main₀ ports₀ trail₀ : List ℕ} {m₀ : Machine} {used budget : 
     less : steps < budget
     less = omega (arith, k .few)
 
-    pub leaves-unfitted : plan.Unfitted ≡ planned (state m (ram main ports))
+    pub leaves-unfitted : phases.Lacking ≡ planned (state m (ram main ports))
         → record { bench = bench m main ports trail count; steps = steps; ended = ending.Unfitted } ≡ over-and-over budget (bench m₀ main₀ ports₀ trail₀ used)
     leaves-unfitted e =
         ends-refused budget _ steps (bench m main ports trail count) (k .along) refusal.Unfitted live less
         (planned-none m main ports trail count (k .lawful) (k .range) live e)
 
-    module _ (c : Change) (e : plan.Go c ≡ planned (state m (ram main ports))) where
+    module _ (c : Change) (e : phases.Go c ≡ planned (state m (ram main ports))) where
       pub leaves-full : (a : Added) (r : Mem) (t : List ℕ) → left a r t ≡ finished m c (ram main ports) trail count → a ≡ added·is.Full
           → record { bench = record { state = state m r; trail = t; used = count }; steps = steps; ended = ending.Full } ≡ over-and-over budget (bench m₀ main₀ ports₀ trail₀ used)
       leaves-full a r t h f =
@@ -374,6 +388,48 @@ module _ {main₀ ports₀ trail₀ : List ℕ} {m₀ : Machine} {used budget : 
             few = omega (arith, less);
             along = rw (← now) (along-next budget _ steps (bench m main ports trail count) (k .along) live less (o .accepted));
           }
+
+    -- ---- the same, by what `step_once` answered and left
+
+    module _ (a : AfterStep) (r : Mem) (t : List ℕ) (h : ended a r t ≡ once m (ram main ports) trail count) where
+      pub leaves-lacking : a ≡ stepped·is.Unfitted
+          → record { bench = record { state = state m r; trail = t; used = count }; steps = steps; ended = ending.Unfitted } ≡ over-and-over budget (bench m₀ main₀ ports₀ trail₀ used)
+      leaves-lacking f = go (planned (state m (ram main ports))) refl h
+        where
+          go : (p : Plan) → planned (state m (ram main ports)) ≡ p → ended a r t ≡ by-plan m (ram main ports) trail count p
+              → record { bench = record { state = state m r; trail = t; used = count }; steps = steps; ended = ending.Unfitted } ≡ over-and-over budget (bench m₀ main₀ ports₀ trail₀ used)
+          go phases.Lacking q z = rw (ap (λ (x : End). x .stores) z, ap (λ (x : End). x .trail) z) (leaves-unfitted (sym q))
+          go (phases.Go c) q z = absurd (not-unfitted (c .machine) (finished m c (ram main ports) trail count .answered) (sym f ∙ ap (λ (x : End). x .answer) z))
+
+      pub leaves-without-room : a ≡ stepped·is.Full
+          → record { bench = record { state = state m r; trail = t; used = count }; steps = steps; ended = ending.Full } ≡ over-and-over budget (bench m₀ main₀ ports₀ trail₀ used)
+      leaves-without-room f = go (planned (state m (ram main ports))) refl h
+        where
+          go : (p : Plan) → planned (state m (ram main ports)) ≡ p → ended a r t ≡ by-plan m (ram main ports) trail count p
+              → record { bench = record { state = state m r; trail = t; used = count }; steps = steps; ended = ending.Full } ≡ over-and-over budget (bench m₀ main₀ ports₀ trail₀ used)
+          go phases.Lacking q z =
+              let y : stepped·is.Full ≡ stepped·is.Unfitted = sym f ∙ ap (λ (x : End). x .answer) z in
+              let n : _≡_ {A = ℕ} 0 1 = cc in
+              absurd (omega arith)
+          go (phases.Go c) q z =
+              let x = finished m c (ram main ports) trail count in
+              let full : x .answered ≡ added·is.Full = was-full (c .machine) (x .answered) (sym f ∙ ap (λ (x : End). x .answer) z) in
+              leaves-full c (sym q) added·is.Full r t (same-finish (sym full) (ap (λ (x : End). x .stores) z) (ap (λ (x : End). x .trail) z)) refl
+
+    pub goes-on-after : (a : AfterStep) (m′ : Machine) (n : ℕ) (main′ ports′ trail′ : List ℕ) → ended a (ram main′ ports′) trail′ ≡ once m (ram main ports) trail count → a ≡ stepped·is.Done m′ n
+        → Going main₀ ports₀ trail₀ m₀ used budget main′ ports′ trail′ m′ n (steps + 1)
+    goes-on-after a m′ n main′ ports′ trail′ h f = go (planned (state m (ram main ports))) refl h
+      where
+        go : (p : Plan) → planned (state m (ram main ports)) ≡ p → ended a (ram main′ ports′) trail′ ≡ by-plan m (ram main ports) trail count p
+            → Going main₀ ports₀ trail₀ m₀ used budget main′ ports′ trail′ m′ n (steps + 1)
+        go phases.Lacking q z =
+            let y : stepped·is.Done m′ n ≡ stepped·is.Unfitted = sym f ∙ ap (λ (x : End). x .answer) z in
+            let n : _≡_ {A = ℕ} 0 1 = cc in
+            absurd (omega arith)
+        go (phases.Go c) q z =
+            let x = finished m c (ram main ports) trail count in
+            let d : (x .answered ≡ added·is.Used n) × (m′ ≡ c .machine) = was-done (c .machine) (x .answered) m′ n (sym f ∙ ap (λ (x : End). x .answer) z) in
+            rw (d .1) (goes-on c (sym q) (added·is.Used n) n main′ ports′ trail′ (same-finish (sym (d .0)) (ap (λ (x : End). x .stores) z) (ap (λ (x : End). x .trail) z)) refl)
 
 pub leaves-stopped : {main₀ ports₀ trail₀ : List ℕ} {m₀ : Machine} {used budget : ℕ} {main ports trail : List ℕ} {m : Machine} {count steps : ℕ}
     → Going main₀ ports₀ trail₀ m₀ used budget main ports trail m count steps → m .stop ≡ true

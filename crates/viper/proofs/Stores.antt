@@ -3,12 +3,12 @@
 use mathlib.Core.Path.{_≡_, refl, sym, ap, _∙_}
 use mathlib.Core.Bool.{Bool, true, false, cond}
 use mathlib.Core.List.{List}
-use Prim.Native.Nat.{ℕ, _<_, _≤_, _^_}
+use Prim.Native.Nat.{ℕ, _+_, _<_, _≤_, _^_}
 use native.Mathlib.Omega.{arith}
-use lib.Dec.{eqb, ltb}
+use lib.Dec.{eqb, ltb, leb}
 use lib.ListN.{length, getD, set, length-set}
 use lib.Seq.{getD-set-same}
-use borrow.Author.Tests.{ltb-true, eq-eqb, ne-eqb}
+use borrow.Author.Tests.{ltb-true, ltb-false, eq-eqb, ne-eqb, lt-leb, le-leb, le-ltb, lt-ltb, leb-false, leb-true}
 use Rattle.report.specs.AnnexA.{Mem}
 use Rattle.report.specs.Parts.{Where, fitted, word-at, with-word}
 use Rattle.machine.specs.Held.{ram, where-of, place-of}
@@ -23,9 +23,9 @@ use Rattle.trail.specs.declared.Added.{Added}
 use Rattle.trail.specs.declared.Added.the-variants as added
 use Rattle.trail.specs.declared.Word.{Word}
 use Rattle.trail.specs.declared.Word.the-variants as word
-use Rattle.viper.specs.declared.phases.Written.{Written}
-use Rattle.viper.specs.declared.phases.Written.the-variants as written
-use Rattle.viper.specs.declared.phases.Change.{Change}
+use Rattle.viper.specs.Views.{view-fitted}
+use Rattle.viper.specs.Phases as written
+use Rattle.viper.specs.Phases.{Written, Change}
 use Rattle.viper.specs.Finishing.{Fitted, Addressed, changing, rewritten, left, finished}
 
 module _ (main ports : List ℕ) (q : Place) where
@@ -52,6 +52,21 @@ module _ (main ports : List ℕ) (q : Place) where
   pub port-put : (n : PortNumber) (v : ℕ) → q ≡ Port n → ram main (set ports (n .0) v) ≡ with-word (ram main ports) (where-of q) v
   unfolding with-word
   port-put n v e = rw e
+
+-- ---- fitted places
+
+pub fitted-low : (main ports : List ℕ) (w : Where) → length main ≤ 2 ^ 20 → length ports ≤ 2 ^ 20 → fitted (ram main ports) w ≡ true → w .1 < 2 ^ 20
+unfolding fitted
+fitted-low main ports (true, n) hm hp e = omega (arith, ltb-true n (length ports) e)
+fitted-low main ports (false, n) hm hp e = omega (arith, ltb-true n (length main) e)
+
+pub one-fits : (a words : ℕ) → leb (a + 1) words ≡ ltb a words
+one-fits a words = ap (λ (n : ℕ). leb n words) (omega arith)
+
+pub view-one : (main ports : List ℕ) (q : Place) → view-fitted (length main) (length ports) q 1 ≡ fitted (ram main ports) (where-of q)
+unfolding fitted
+view-one main ports (Main n) = one-fits (n .0) (length main)
+view-one main ports (Port n) = one-fits (n .0) (length ports)
 
 -- ---- what is to be written
 

@@ -14,6 +14,7 @@ use Rattle.report.specs.Parts as parts
 use Rattle.report.specs.Parts.{Part, stopped, halts, compares, writes, skips, computes, part-by, Where, fitted, word-at, reads, written}
 use Rattle.machine.specs.Held.{machine-of, place-by, place-of}
 use Rattle.machine.specs.declared.Machine.{Machine}
+use Rattle.machine.specs.declared.Place.{Place}
 use Rattle.instruction.specs.Fields.{Fielded}
 use Rattle.instruction.specs.PartOf.{part-of}
 use Rattle.instruction.specs.declared.Fields.{Fields}
@@ -22,11 +23,6 @@ use Rattle.viper.specs.declared.phases.Fetched.the-variants as fetch
 use Rattle.viper.specs.declared.phases.Decoded.{Decoded}
 use Rattle.viper.specs.declared.phases.Operands.{Operands}
 use Rattle.viper.specs.declared.phases.Operands.the-variants.{Held, Unfitted}
-use Rattle.viper.specs.declared.phases.Written.{Written}
-use Rattle.viper.specs.declared.phases.Written.the-variants.{Nothing, Word}
-use Rattle.viper.specs.declared.phases.Change.{Change}
-use Rattle.viper.specs.declared.phases.Plan.{Plan}
-use Rattle.viper.specs.declared.phases.Plan.the-variants as plan
 
 -- ---- fetch
 
@@ -35,19 +31,21 @@ fetched main p = cond (ltb p (length main)) (fetch.Word (getD main p 0)) fetch.U
 
 -- ---- decode
 
-pub record Decodes (m : Machine) (w : ℕ) (d : Decoded) : Type 0 where
-  pub fields : Fielded w (d .fields)
-  pub address : d .address ≡ OFFSET (parts.msf w, parts.addr w, m .x, m .y)
-  pub part : part-of (d .part) ≡ part-by w (m .p) (d .address) (m .b) false
-
--- ---- operands
-
 -- N modulo 2^20.
 abbrev pub next-p : Machine → ℕ
 next-p m = (m .p + 1) % 2 ^ 20
 
 abbrev pub source-of : Machine → Fields → ℕ
 source-of m f = REG (f .rsf, m .a, m .x, m .y, next-p m)
+
+pub record Decodes (m : Machine) (w : ℕ) (d : Decoded) : Type 0 where
+  pub fields : Fielded w (d .fields)
+  pub address : d .address ≡ OFFSET (parts.msf w, parts.addr w, m .x, m .y)
+  pub next : d .next ≡ next-p m
+  pub r : d .r ≡ source-of m (d .fields)
+  pub part : part-of (d .part) ≡ part-by w (m .p) (d .address) (m .b) false
+
+-- ---- operands
 
 abbrev pub read-from : List ℕ → ℕ → ℕ → Operands
 read-from store at r = cond (ltb at (length store)) (Held r (getD store at 0)) Unfitted
@@ -68,6 +66,16 @@ operands-of computes f at r main ports =
     cond (eqb (f .fsf) 12) (Held r 0) (cond (eqb (f .fsf) 2) (constant-or f ports at r) (constant-or f main at r))
 
 -- ---- execute
+
+-- What is written to a store.
+pub data Written : Type 0 where
+  Nothing : Written
+  Word : Place → ℕ → Written
+
+-- What an operation changes: the machine after it, and the word that it writes.
+pub record Change : Type 0 where
+  pub machine : Machine
+  pub written : Written
 
 abbrev pub with-flags : Machine → Bool → Bool → Machine
 with-flags m b stop = record { a = m .a; x = m .x; y = m .y; p = next-p m; b = b; stop = stop }
@@ -93,6 +101,10 @@ executed computes f at m r v = alone (delivered m f (next-p m) (ALU (f .fsf, f .
 
 -- ---- the four phases together: what a step changes, by the report's NEXT, or that it wants a word that is not fitted
 
+pub data Plan : Type 0 where
+  Go : Change → Plan
+  Lacking : Plan
+
 abbrev pub lacks : Mem → Option Where → Bool
 lacks ram none = false
 lacks ram (some q) = not (fitted ram q)
@@ -110,4 +122,4 @@ abbrev pub change-of : State → Change
 change-of s = record { machine = machine-of (NEXT s); written = writing (written s) (NEXT s .0) }
 
 unfoldable pub planned : State → Plan
-planned s = cond (step-unfitted s) plan.Unfitted (plan.Go (change-of s))
+planned s = cond (step-unfitted s) Lacking (Go (change-of s))

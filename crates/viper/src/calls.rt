@@ -4,12 +4,12 @@ use crate::Outcome;
 use crate::Refusal;
 use crate::RunAnswer;
 use crate::RunOutcome;
-use crate::finish::finish;
+use crate::finish::Stepped;
+use crate::finish::changed_to;
 use crate::finish::put_word;
-use crate::phases::Change;
-use crate::phases::Plan;
-use crate::phases::Written;
-use crate::phases::plan_step;
+use crate::finish::word_at;
+use crate::phases::choose;
+use crate::phases::step_once;
 use crate::views::is_fitted;
 use machine::Ending;
 use machine::Machine;
@@ -21,7 +21,6 @@ use trail::Newest;
 use trail::OldValues;
 use trail::Word;
 ghost use mathlib.Core.Path.{_≡_};
-ghost use mathlib.Core.Bool.{cond};
 ghost use mathlib.Core.List.{List};
 ghost use Prim.Native.Nat.{ℕ, _≤_, _<_, _^_};
 ghost use lib.ListN.{length};
@@ -86,24 +85,29 @@ fn advance(
                 ending: Ending::Budget,
             };
         }
-        let Plan::Go(change) = plan_step(&table, current, main, ports) else {
-            return Advanced {
-                machine: current,
-                used: count,
-                steps,
-                ending: Ending::Unfitted,
-            };
-        };
-        let Added::Used(n) = finish(current, change, main, ports, trail, count) else {
-            return Advanced {
-                machine: current,
-                used: count,
-                steps,
-                ending: Ending::Full,
-            };
-        };
-        current = change.machine;
-        count = n;
+        let stepped = step_once(&table, current, main, ports, trail, count);
+        match stepped {
+            Stepped::Done(after, n) => {
+                current = after;
+                count = n;
+            }
+            Stepped::Unfitted => {
+                return Advanced {
+                    machine: current,
+                    used: count,
+                    steps,
+                    ending: Ending::Unfitted,
+                };
+            }
+            Stepped::Full => {
+                return Advanced {
+                    machine: current,
+                    used: count,
+                    steps,
+                    ending: Ending::Full,
+                };
+            }
+        }
         steps += 1;
     }
     Advanced {
@@ -280,17 +284,16 @@ pub fn set(
             answer: Answer::Refused(Refusal::Unfitted),
         };
     }
-    let change = Change {
-        machine: m,
-        written: Written::Word(place, value),
-    };
-    let Added::Used(n) = finish(m, change, main, ports, trail, used) else {
+    let old = word_at(main, ports, place);
+    let o = trail::records::old_values(m, m, changed_to(place, old, value));
+    let Added::Used(n) = trail::records::add(trail, used, o) else {
         return Outcome {
             machine: m,
             used,
             answer: Answer::Refused(Refusal::TrailFull),
         };
     };
+    put_word(main, ports, place, value);
     Outcome {
         machine: m,
         used: n,
@@ -311,12 +314,6 @@ fn machine_restored(o: OldValues, m: Machine) -> Machine
         b: marks / 16 % 2 == 1,
         stop: marks / 32 % 2 == 1,
     }
-}
-
-fn choose(first: bool, a: u32, b: u32) -> u32
-    ensures { λ r. ⌜ r ≡ cond first a b ⌝ }
-{
-    if first { a } else { b }
 }
 
 // Puts back the word of a record that marks one.

@@ -1,5 +1,13 @@
-// The phases of a step: fetch, decode, operand and execute work out what it changes and touch nothing; finish (finish.rt) writes it.
-// Document 01, "Order in a step".
+// The phases of a step: fetch, decode, operand and execute work out what it changes, and finish (finish.rt) writes it.
+// Document 01, "Order in a step". What a step changes is not collected in one value, which would go through memory: each way through
+// the phases ends in the finish that it needs.
+use crate::finish::Stepped;
+use crate::finish::finish_a;
+use crate::finish::finish_flags;
+use crate::finish::finish_word;
+use crate::finish::finish_x;
+use crate::finish::finish_y;
+use crate::views::is_fitted;
 use instruction::Fields;
 use instruction::Part;
 use machine::Machine;
@@ -8,13 +16,18 @@ use machine::Place;
 use machine::PortNumber;
 use word::AluResult;
 ghost use mathlib.Core.Path.{_≡_};
-ghost use mathlib.Core.Bool.{false};
-ghost use Prim.Native.Nat.{_+_, _<_, _^_};
-ghost use Rattle.machine.specs.Held.{ram, state};
+ghost use mathlib.Core.Bool.{false, cond};
+ghost use Prim.Native.Nat.{_+_, _≤_, _<_, _^_};
+ghost use lib.Dec.{eqb};
+ghost use lib.ListN.{length};
+ghost use Rattle.report.specs.AnnexA.{Mem};
+ghost use Rattle.report.specs.Parts.{computes};
+ghost use Rattle.machine.specs.Held.{ram, place-by};
 ghost use Rattle.instruction.specs.Classes.{Classified};
-ghost use Rattle.instruction.specs.PartOf.{part-of};
 ghost use Rattle.word.specs.Triples.{result-triple};
-ghost use Rattle.viper.specs.Phases.{fetched, Decodes, read-from, constant-or, write-to, operands-of, source-of, delivered, executed, planned};
+ghost use Rattle.viper.specs.Phases.{fetched, Decodes, read-from, constant-or, operands-of, delivered, alone};
+ghost use Rattle.viper.specs.Finishing.{ended, completed, once};
+ghost use Rattle.viper.specs.Judging.{Lawful};
 
 // The word at P.
 pub enum Fetched {
@@ -22,35 +35,19 @@ pub enum Fetched {
     Unfitted,
 }
 
-// A word decoded on a machine: its class, its fields, its whole address, and the part of the order that it comes to.
+// A word decoded on a machine: its class, its fields, its whole address, the P after it, R, and the part of the order that it comes to.
 pub struct Decoded {
     pub class: u8,
     pub fields: Fields,
     pub address: u32,
+    pub next: u32,
+    pub r: u32,
     pub part: Part,
 }
 
-// R and M, once the word that is to be read or written is known to be fitted.
+// R and M, once the word that is to be read is known to be fitted.
 pub enum Operands {
     Held(u32, u32),
-    Unfitted,
-}
-
-// What is to be written to a store.
-pub enum Written {
-    Nothing,
-    Word(Place, u32),
-}
-
-// What an operation changes: the machine after it, and the word that it writes.
-pub struct Change {
-    pub machine: Machine,
-    pub written: Written,
-}
-
-// What a step is to change, or that it wants a word that is not fitted.
-pub enum Plan {
-    Go(Change),
     Unfitted,
 }
 
@@ -66,16 +63,21 @@ pub(crate) fn fetch(main: &[u32], p: u32) -> Fetched
 
 pub(crate) fn decode(table: &[u8; 1024], m: Machine, w: u32) -> Decoded
     requires { ⌜ Classified (now table) ⌝ }
+    requires { ⌜ m .p < 2 ^ 20 ⌝ }
     ensures { λ d. ⌜ Decodes m w d ⌝ }
 {
     let class = instruction::class_of(table, w);
     let fields = instruction::take_apart(w);
     let address = instruction::address(fields.msf, fields.addr, m.x, m.y);
+    let next = (m.p + 1) % 0x10_0000;
+    let r = instruction::register(fields.rsf, m.a, m.x, m.y, next);
     let part = instruction::decide(w, class, m.p, address, m.b);
     Decoded {
         class,
         fields,
         address,
+        next,
+        r,
         part,
     }
 }
@@ -101,183 +103,112 @@ fn constant_or_read(f: Fields, store: &[u32], at: u32, r: u32) -> Operands
     read(store, at, r)
 }
 
-// R alone, for a write to a store of `words` words.
-fn writable(words: usize, at: u32, r: u32) -> Operands
-    ensures { λ o. ⌜ o ≡ write-to words at r ⌝ }
+// R and M of a function: a shift reads no word, and function 2 reads a port.
+fn operand(f: Fields, main: &[u32], ports: &[u32], at: u32, r: u32) -> Operands
+    ensures { λ o. ⌜ o ≡ operands-of computes f at r (now (main .entry)) (now (ports .entry)) ⌝ }
 {
-    if (at as usize) < words {
+    if f.fsf == 12 {
         return Operands::Held(r, 0);
     }
-    Operands::Unfitted
-}
-
-pub(crate) fn operand(m: Machine, d: Decoded, main: &[u32], ports: &[u32]) -> Operands
-    requires { ⌜ m .p < 2 ^ 20 ⌝ }
-    ensures { λ o. ⌜ o ≡ operands-of (part-of (d .part)) (d .fields) (d .address) (source-of m (d .fields)) (now (main .entry)) (now (ports .entry)) ⌝ }
-{
-    let f = d.fields;
-    let at = d.address;
-    let part = d.part;
-    let r = instruction::register(f.rsf, m.a, m.x, m.y, (m.p + 1) % 0x10_0000);
-    match part {
-        Part::Halts => Operands::Held(r, 0),
-        Part::Compares => constant_or_read(f, main, at, r),
-        Part::Writes => {
-            if f.dsf == 6 {
-                return writable(ports.len(), at, r);
-            }
-            writable(main.len(), at, r)
-        }
-        Part::Skips => Operands::Held(r, 0),
-        Part::Computes => {
-            if f.fsf == 12 {
-                return Operands::Held(r, 0);
-            }
-            if f.fsf == 2 {
-                return constant_or_read(f, ports, at, r);
-            }
-            constant_or_read(f, main, at, r)
-        }
+    if f.fsf == 2 {
+        return constant_or_read(f, ports, at, r);
     }
+    constant_or_read(f, main, at, r)
 }
 
-// The machine with a result at its destination; a call also puts n, which is P + 1, in Y.
-fn deliver(m: Machine, f: Fields, n: u32, t: AluResult) -> Machine
-    ensures { λ r. ⌜ r ≡ delivered m f n (result-triple t) ⌝ }
+// The place that a write goes to.
+fn place_of(f: Fields, at: u32) -> Place
+    ensures { λ q. ⌜ q ≡ place-by (eqb (f .dsf) 6) at ⌝ }
 {
-    let dsf = f.dsf;
-    match dsf {
-        0 => Machine {
-            a: t.value,
-            x: m.x,
-            y: m.y,
-            p: n,
-            b: t.b,
-            stop: t.stop,
-        },
-        1 => Machine {
-            a: m.a,
-            x: t.value,
-            y: m.y,
-            p: n,
-            b: t.b,
-            stop: t.stop,
-        },
-        2 => Machine {
-            a: m.a,
-            x: m.x,
-            y: t.value,
-            p: n,
-            b: t.b,
-            stop: t.stop,
-        },
-        _ => {
-            if f.fsf == 1 {
-                return Machine {
-                    a: m.a,
-                    x: m.x,
-                    y: n,
-                    p: t.value % 0x10_0000,
-                    b: t.b,
-                    stop: t.stop,
-                };
-            }
-            Machine {
-                a: m.a,
-                x: m.x,
-                y: m.y,
-                p: t.value % 0x10_0000,
-                b: t.b,
-                stop: t.stop,
-            }
-        }
+    if f.dsf == 6 {
+        return Place::Port(PortNumber(at));
     }
+    Place::Main(MainAddress(at))
 }
 
-pub(crate) fn execute(m: Machine, d: Decoded, r: u32, v: u32) -> Change
-    requires { ⌜ m .p < 2 ^ 20 ⌝ }
-    ensures { λ c. ⌜ c ≡ executed (part-of (d .part)) (d .fields) (d .address) m r v ⌝ }
+// The first of two values, if it is chosen.
+pub(crate) fn choose(first: bool, a: u32, b: u32) -> u32
+    ensures { λ r. ⌜ r ≡ cond first a b ⌝ }
 {
-    let f = d.fields;
-    let at = d.address;
-    let part = d.part;
-    let n = (m.p + 1) % 0x10_0000;
-    match part {
-        Part::Halts => Change {
-            machine: Machine {
-                a: m.a,
-                x: m.x,
-                y: m.y,
-                p: n,
-                b: m.b,
-                stop: true,
-            },
-            written: Written::Nothing,
-        },
-        Part::Compares => Change {
-            machine: Machine {
-                a: m.a,
-                x: m.x,
-                y: m.y,
-                p: n,
-                b: word::compare(f.fsf, r, v, m.b),
-                stop: false,
-            },
-            written: Written::Nothing,
-        },
-        Part::Writes => {
-            let after = Machine {
-                a: m.a,
-                x: m.x,
-                y: m.y,
-                p: n,
-                b: m.b,
-                stop: false,
-            };
-            if f.dsf == 6 {
-                return Change {
-                    machine: after,
-                    written: Written::Word(Place::Port(PortNumber(at)), r),
-                };
-            }
-            Change {
-                machine: after,
-                written: Written::Word(Place::Main(MainAddress(at)), r),
-            }
-        }
-        Part::Skips => Change {
-            machine: Machine {
-                a: m.a,
-                x: m.x,
-                y: m.y,
-                p: n,
-                b: m.b,
-                stop: false,
-            },
-            written: Written::Nothing,
-        },
-        Part::Computes => {
-            let t = word::alu(f.fsf, f.msf, f.dsf, r, v, m.b);
-            Change {
-                machine: deliver(m, f, n, t),
-                written: Written::Nothing,
-            }
-        }
-    }
+    if first { a } else { b }
 }
 
-// The four phases in a row.
-pub(crate) fn plan_step(table: &[u8; 1024], m: Machine, main: &[u32], ports: &[u32]) -> Plan
+// Finishes with a result at its destination; a call also puts n, which is P + 1, in Y.
+fn deliver(m: Machine, f: Fields, n: u32, t: AluResult, trail: &mut [u8], used: usize) -> Stepped
+    requires { ⌜ (m .p < 2 ^ 20) × (used ≤ length (now trail)) ⌝ }
+    ensures { λ r. ⌜ ((stores : Mem) → ended r stores (now (trail .exit)) ≡ completed m (alone (delivered m f n (result-triple t))) stores (now (trail .entry)) used) ⌝ }
+{
+    if f.dsf == 0 {
+        return finish_a(m, t.value, n, t.b, t.stop, trail, used);
+    }
+    if f.dsf == 1 {
+        return finish_x(m, t.value, n, t.b, t.stop, trail, used);
+    }
+    let y = f.dsf == 2;
+    if y | (f.fsf == 1) {
+        return finish_y(
+            m,
+            choose(y, t.value, n),
+            choose(y, n, t.value % 0x10_0000),
+            t.b,
+            t.stop,
+            trail,
+            used,
+        );
+    }
+    finish_flags(m, t.value % 0x10_0000, t.b, t.stop, trail, used)
+}
+
+// One step: the phases in a row, by the part of the order.
+pub(crate) fn step_once(
+    table: &[u8; 1024],
+    m: Machine,
+    main: &mut [u32],
+    ports: &mut [u32],
+    trail: &mut [u8],
+    used: usize,
+) -> Stepped
     requires { ⌜ Classified (now table) ⌝ }
-    requires { ⌜ (m .p < 2 ^ 20) × (m .stop ≡ false) ⌝ }
-    ensures { λ r. ⌜ r ≡ planned (state m (ram (now (main .entry)) (now (ports .entry)))) ⌝ }
+    requires { ⌜ Lawful (m .p) (length (now main)) (length (now ports)) (length (now trail)) used ⌝ }
+    requires { ⌜ m .stop ≡ false ⌝ }
+    ensures { λ r. ⌜ ended r (ram (now (main .exit)) (now (ports .exit))) (now (trail .exit)) ≡ once m (ram (now (main .entry)) (now (ports .entry))) (now (trail .entry)) used ⌝ }
 {
     let Fetched::Word(w) = fetch(main, m.p) else {
-        return Plan::Unfitted;
+        return Stepped::Unfitted;
     };
     let d = decode(table, m, w);
-    let Operands::Held(r, v) = operand(m, d, main, ports) else {
-        return Plan::Unfitted;
-    };
-    Plan::Go(execute(m, d, r, v))
+    let f = d.fields;
+    let at = d.address;
+    let part = d.part;
+    match part {
+        Part::Halts => finish_flags(m, d.next, m.b, true, trail, used),
+        Part::Compares => {
+            let Operands::Held(r, v) = constant_or_read(f, main, at, d.r) else {
+                return Stepped::Unfitted;
+            };
+            finish_flags(
+                m,
+                d.next,
+                word::compare(f.fsf, r, v, m.b),
+                false,
+                trail,
+                used,
+            )
+        }
+        Part::Writes => {
+            let place = place_of(f, at);
+            if !is_fitted(main, ports, place, 1) {
+                return Stepped::Unfitted;
+            }
+            finish_word(m, place, d.r, d.next, main, ports, trail, used)
+        }
+        Part::Skips => finish_flags(m, d.next, m.b, false, trail, used),
+        Part::Computes => {
+            let Operands::Held(r, v) = operand(f, main, ports, at, d.r) else {
+                return Stepped::Unfitted;
+            };
+            let t = word::alu(f.fsf, f.msf, f.dsf, r, v, m.b);
+            deliver(m, f, d.next, t, trail, used)
+        }
+    }
 }

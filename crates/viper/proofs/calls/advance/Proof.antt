@@ -7,9 +7,7 @@ use borrow.Author.Needs.{needs}
 use denote.Ref.{now}
 use Rattle.report.specs.Parts.{InRange}
 use Rattle.machine.specs.Held.{ram, state}
-use Rattle.viper.specs.Phases.{planned}
-use Rattle.viper.specs.declared.phases.Plan.the-variants as plan
-use Rattle.viper.proofs.Stepping.{Going, going-start, leaves-stopped, leaves-budget, leaves-unfitted, leaves-full, goes-on, addressed}
+use Rattle.viper.proofs.Stepping.{Going, going-start, leaves-stopped, leaves-budget, leaves-lacking, leaves-without-room, goes-on-after}
 use Rattle.viper.proofs.calls.advance.Statement.{statement}
 use Rattle.viper.proofs.calls.advance.Tie as tie
 
@@ -61,11 +59,11 @@ same-length-3 c = search needs
 returns : tie.Need-returns Inv-loop μ-loop
 returns c = leaves-budget (c .before .before .before .loop .inv) (live _ (c .before .if1 .taken)) (c .if2 .taken)
 
-plan-step-requires : tie.Need-plan-step-requires Inv-loop μ-loop
-plan-step-requires c κs = (c .before .before .before .before .before .before .before .class-table .ensures, (c .before .before .before .before .before .before .loop .inv .lawful .p-lt, live _ (c .before .before .before .before .if1 .taken)))
+step-once-requires : tie.Need-step-once-requires Inv-loop μ-loop
+step-once-requires c κs = (c .before .before .before .before .before .before .before .before .class-table .ensures, (c .before .before .before .before .before .before .before .loop .inv .lawful, live _ (c .before .before .before .before .before .if1 .taken)))
 
-enum-known-change : tie.Need-enum-known-change Inv-loop μ-loop
-enum-known-change c = search needs
+enum-known-stepped : tie.Need-enum-known-stepped Inv-loop μ-loop
+enum-known-stepped c = search needs
 
 enum-told : tie.Need-enum-told Inv-loop μ-loop
 enum-told c = search needs
@@ -80,16 +78,9 @@ same-length-6 : tie.Need-same-length-6 Inv-loop μ-loop
 same-length-6 c = search needs
 
 returns-2 : tie.Need-returns-2 Inv-loop μ-loop
-returns-2 c = leaves-unfitted (c .before .before .before .before .before .before .before .before .before .loop .inv) (live _ (c .before .before .before .before .before .before .before .if1 .taken)) (c .before .before .before .before .before .before .if2 .left) (sym (c .enum-told .given .1) ∙ c .before .before .plan-step .ensures)
-
-finish-requires : tie.Need-finish-requires Inv-loop μ-loop
-finish-requires c κs =
-    let k = c .before .before .before .before .before .before .before .before .before .before .before .before .before .loop .inv in
-    let e : plan.Go (c .before .before .before .before .change .given .0 .0) ≡ planned _ = sym (c .before .before .before .before .change .given .1) ∙ c .before .before .before .before .before .before .plan-step .ensures in
-    ((k .lawful .p-lt, k .lawful .used-le), addressed (c .before .before .before .before .before .before .before .before .before .before .before .before .before .loop .current) (c .before .before .before .before .before .before .before .before .before .before .before .before .before .loop .main) (c .before .before .before .before .before .before .before .before .before .before .before .before .before .loop .ports) (c .before .before .before .before .before .before .before .before .before .before .before .before .before .loop .trail) (c .before .before .before .before .before .before .before .before .before .before .before .before .before .loop .count) (k .lawful) (k .range) (live _ (c .before .before .before .before .before .before .before .before .before .before .before .if1 .taken)) _ e)
-
-enum-known-n : tie.Need-enum-known-n Inv-loop μ-loop
-enum-known-n c = search needs
+returns-2 c =
+    let o = c .before .before .before .before .before .before .before .before .step-once in
+    leaves-lacking (c .before .before .before .before .before .before .before .before .before .before .before .before .before .before .before .before .loop .inv) (live _ (c .before .before .before .before .before .before .before .before .before .before .before .before .before .before .if1 .taken)) (c .before .before .before .before .before .before .before .before .before .before .before .before .before .if2 .left) (o .result) (ram (o .last .1 .1 .0) (o .last .1 .1 .1 .0)) (o .last .1 .1 .1 .1 .0) (o .ensures) (c .enum-told .given .1)
 
 enum-told-2 : tie.Need-enum-told-2 Inv-loop μ-loop
 enum-told-2 c = search needs
@@ -105,26 +96,27 @@ same-length-9 c = search needs
 
 returns-3 : tie.Need-returns-3 Inv-loop μ-loop
 returns-3 c =
-    leaves-full (c .before .before .before .before .before .before .before .before .before .before .before .before .before .before .before .before .before .before .before .before .before .before .loop .inv) (live _ (c .before .before .before .before .before .before .before .before .before .before .before .before .before .before .before .before .before .before .before .before .if1 .taken)) (c .before .before .before .before .before .before .before .before .before .before .before .before .before .before .before .before .before .before .before .if2 .left) (c .before .before .before .before .before .before .before .before .before .before .before .before .before .change .given .0 .0) (sym (c .before .before .before .before .before .before .before .before .before .before .before .before .before .change .given .1) ∙ c .before .before .before .before .before .before .before .before .before .before .before .before .before .before .before .plan-step .ensures)
-    (c .before .before .before .before .before .before .before .before .finish .result) (ram (c .before .before .before .before .before .before .before .before .finish .last .1 .1 .0) (c .before .before .before .before .before .before .before .before .finish .last .1 .1 .1 .0)) (c .before .before .before .before .before .before .before .before .finish .last .1 .1 .1 .1 .0) (c .before .before .before .before .before .before .before .before .finish .ensures) (c .enum-told2 .given .1)
+    let o = c .before .before .before .before .before .before .before .before .step-once in
+    leaves-without-room (c .before .before .before .before .before .before .before .before .before .before .before .before .before .before .before .before .loop .inv) (live _ (c .before .before .before .before .before .before .before .before .before .before .before .before .before .before .if1 .taken)) (c .before .before .before .before .before .before .before .before .before .before .before .before .before .if2 .left) (o .result) (ram (o .last .1 .1 .0) (o .last .1 .1 .1 .0)) (o .last .1 .1 .1 .1 .0) (o .ensures) (c .enum-told2 .given .1)
 
 add-steps : tie.Need-add-steps Inv-loop μ-loop
 add-steps c =
-    let few = c .before .before .before .before .before .before .before .before .before .before .before .before .before .before .before .before .before .before .before .before .before .before .before .before .loop .inv .few in
-    let more = c .before .before .before .before .before .before .before .before .before .before .before .before .before .before .before .before .before .before .before .before .before .if2 .left in
-    let fits = c .before .before .before .before .before .before .before .before .before .before .before .before .before .before .before .before .before .before .before .before .before .before .before .before .before .before .before .before .before .fits .budget .fits in
+    let few = c .before .before .before .before .before .before .before .before .before .before .before .before .before .before .before .before .before .loop .inv .few in
+    let more = c .before .before .before .before .before .before .before .before .before .before .before .before .before .before .if2 .left in
+    let fits = c .before .before .before .before .before .before .before .before .before .before .before .before .before .before .before .before .before .before .before .before .before .before .fits .budget .fits in
     omega arith
 
 loop-less : tie.Need-loop-less Inv-loop μ-loop
 loop-less c =
-    let few = c .before .before .before .before .before .before .before .before .before .before .before .before .before .before .before .before .before .before .before .before .before .before .before .before .loop .inv .few in
-    let more = c .before .before .before .before .before .before .before .before .before .before .before .before .before .before .before .before .before .before .before .before .before .if2 .left in
+    let few = c .before .before .before .before .before .before .before .before .before .before .before .before .before .before .before .before .before .loop .inv .few in
+    let more = c .before .before .before .before .before .before .before .before .before .before .before .before .before .before .if2 .left in
     omega arith
 
 loop-again : tie.Need-loop-again Inv-loop μ-loop
 loop-again c =
-    goes-on (c .before .before .before .before .before .before .before .before .before .before .before .before .before .before .before .before .before .before .before .before .before .before .before .before .loop .inv) (live _ (c .before .before .before .before .before .before .before .before .before .before .before .before .before .before .before .before .before .before .before .before .before .before .if1 .taken)) (c .before .before .before .before .before .before .before .before .before .before .before .before .before .before .before .before .before .before .before .before .before .if2 .left) (c .before .before .before .before .before .before .before .before .before .before .before .before .before .before .before .change .given .0 .0) (sym (c .before .before .before .before .before .before .before .before .before .before .before .before .before .before .before .change .given .1) ∙ c .before .before .before .before .before .before .before .before .before .before .before .before .before .before .before .before .before .plan-step .ensures)
-    (c .before .before .before .before .before .before .before .before .before .before .finish .result) (c .before .before .n .given .0 .0) (c .before .before .before .before .before .before .before .before .before .before .finish .last .1 .1 .0) (c .before .before .before .before .before .before .before .before .before .before .finish .last .1 .1 .1 .0) (c .before .before .before .before .before .before .before .before .before .before .finish .last .1 .1 .1 .1 .0) (c .before .before .before .before .before .before .before .before .before .before .finish .ensures) (c .before .before .n .given .1)
+    let o = c .before .before .before .before .before .before .before .before .before .step-once in
+    let k = c .before .stepped .given in
+    goes-on-after (c .before .before .before .before .before .before .before .before .before .before .before .before .before .before .before .before .before .loop .inv) (live _ (c .before .before .before .before .before .before .before .before .before .before .before .before .before .before .before .if1 .taken)) (c .before .before .before .before .before .before .before .before .before .before .before .before .before .before .if2 .left) (o .result) (k .0 .0) (k .0 .1 .0) (o .last .1 .1 .0) (o .last .1 .1 .1 .0) (o .last .1 .1 .1 .1 .0) (o .ensures) (k .1)
 
 same-length-10 : tie.Need-same-length-10 Inv-loop μ-loop
 same-length-10 c = search needs
@@ -150,15 +142,13 @@ advance-spec =
     same-length-2
     same-length-3
     returns
-    plan-step-requires
-    enum-known-change
+    step-once-requires
+    enum-known-stepped
     enum-told
     same-length-4
     same-length-5
     same-length-6
     returns-2
-    finish-requires
-    enum-known-n
     enum-told-2
     same-length-7
     same-length-8

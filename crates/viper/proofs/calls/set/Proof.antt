@@ -1,22 +1,32 @@
--- Refusals 1 to 3 and 5, or the change finished.
+-- Refusals 1 to 3 and 5, or the word written, with its record on the trail.
 use mathlib.Core.Path.{_≡_, refl, sym, _∙_}
 use mathlib.Core.Bool.{Bool, true, false, not, true≢false}
+use Prim.Native.Nat.{_<_, _^_}
+use native.Mathlib.Omega.{arith}
 use denote.Ref.{now}
 use lib.ListN.{length}
 use Rattle.machine.specs.Held.{ram}
+use Rattle.trail.specs.declared.Added.the-variants as added
+use Rattle.trail.proofs.Marks.{Sound, old-values-good}
 use Rattle.viper.specs.Operations.{set-word}
+use Rattle.viper.specs.Phases as phases
+use Rattle.viper.proofs.Stores.{changing-addressed, changing-value, finish-full, finish-done}
+use Rattle.viper.proofs.Completing.{written-over}
 use Rattle.viper.proofs.Exits.{passed, refused-first, set-unfitted, set-fitted, set-full, set-done}
 use borrow.Author.Needs.{needs}
 use Rattle.viper.proofs.calls.set.Statement.{statement}
 use Rattle.viper.proofs.calls.set.Tie as tie
 
-no : (b : Bool) → not b ≡ true → b ≡ false
+no : (t : Bool) → not t ≡ true → t ≡ false
 no true e = absurd (true≢false (sym e))
 no false e = refl
 
-yes : (b : Bool) → not b ≡ false → b ≡ true
+yes : (t : Bool) → not t ≡ false → t ≡ true
 yes true e = refl
 yes false e = absurd (true≢false e)
+
+registers : (s : tie.Start) → (s .args .m .a < 2 ^ 32) × (s .args .m .x < 2 ^ 32) × (s .args .m .y < 2 ^ 32)
+registers s = (omega arith, omega arith, omega arith)
 
 judge-requires : tie.Need-judge-requires
 judge-requires c κs = search needs
@@ -25,7 +35,9 @@ enum-known-first : tie.Need-enum-known-first
 enum-known-first c = search needs
 
 returns : tie.Need-returns
-returns c = let s = c .before .before .before .before .before .before .before in refused-first (s .args .m) (now (s .args .main)) (now (s .args .ports)) (now (s .args .trail)) (s .args .used) (set-word (s .args .place) (s .args .value)) (c .before .before .before .judge .result) (c .before .first .given .0 .0) refl (c .before .before .before .judge .ensures) (c .before .first .given .1)
+returns c =
+    let s = c .before .before .before .before .before .before .before in
+    refused-first (s .args .m) (now (s .args .main)) (now (s .args .ports)) (now (s .args .trail)) (s .args .used) (set-word (s .args .place) (s .args .value)) (c .before .before .before .judge .result) (c .before .first .given .0 .0) refl (c .before .before .before .judge .ensures) (c .before .first .given .1)
 
 enum-told : tie.Need-enum-told
 enum-told c = search needs
@@ -40,13 +52,46 @@ same-length-2 : tie.Need-same-length-2
 same-length-2 c = search needs
 
 returns-2 : tie.Need-returns-2
-returns-2 c = let s = c .before .before .before .before .before .before .before .before .before .before in set-unfitted (s .args .m) (now (s .args .main)) (now (s .args .ports)) (now (s .args .trail)) (s .args .used) (s .args .place) (s .args .value) (c .before .before .before .before .before .before .judge .result) (c .before .before .before .before .before .before .judge .ensures) (c .before .before .before .before .enum-told .given .1) (c .before .is-fitted .result) (c .before .is-fitted .ensures) (no _ (c .if1 .taken))
+returns-2 c =
+    let s = c .before .before .before .before .before .before .before .before .before .before in
+    set-unfitted (s .args .m) (now (s .args .main)) (now (s .args .ports)) (now (s .args .trail)) (s .args .used) (s .args .place) (s .args .value) (c .before .before .before .before .before .before .judge .result) (c .before .before .before .before .before .before .judge .ensures) (c .before .before .before .before .enum-told .given .1) (c .before .is-fitted .result) (c .before .is-fitted .ensures) (no _ (c .if1 .taken))
 
-finish-requires : tie.Need-finish-requires
-finish-requires c κs =
-    let s = c .before .before .before .before .before .before .before .before .before .before .before .before .before in
-    let l = passed (s .args .m .p) (length (now (s .args .main))) (length (now (s .args .ports))) (length (now (s .args .trail))) (s .args .used) (c .before .before .before .before .before .before .before .before .before .judge .result) (c .before .before .before .before .before .before .before .before .before .judge .ensures) (c .before .before .before .before .before .before .before .enum-told .given .1) in
-    ((l .p-lt, l .used-le), set-fitted (s .args .m) (now (s .args .main)) (now (s .args .ports)) (now (s .args .trail)) (s .args .used) (s .args .place) (s .args .value) (c .before .before .before .before .before .before .before .before .before .judge .result) (c .before .before .before .before .before .before .before .before .before .judge .ensures) (c .before .before .before .before .before .before .before .enum-told .given .1) (c .before .before .before .before .is-fitted .result) (c .before .before .before .before .is-fitted .ensures) (yes _ (c .before .before .before .if1 .left)))
+word-at-requires : tie.Need-word-at-requires
+word-at-requires c κs =
+    let s = c .before .before .before .before .before .before .before .before .before .before .before .before in
+    set-fitted (s .args .m) (now (s .args .main)) (now (s .args .ports)) (now (s .args .trail)) (s .args .used) (s .args .place) (s .args .value) (c .before .before .before .before .before .before .before .before .judge .result) (c .before .before .before .before .before .before .before .before .judge .ensures) (c .before .before .before .before .before .before .enum-told .given .1) (c .before .before .before .is-fitted .result) (c .before .before .before .is-fitted .ensures) (yes _ (c .before .before .if1 .left))
+
+changed-to-requires : tie.Need-changed-to-requires
+changed-to-requires c κs = search needs
+
+old-values-requires : tie.Need-old-values-requires
+old-values-requires c κs =
+    let s = c .before .before .before .before .before .before .before .before .before .before .before .before .before .before in
+    let stores = ram (now (s .args .main)) (now (s .args .ports)) in
+    let o = c .before .word-at in
+    let w = c .changed-to in
+    let hw = w .ensures ∙ written-over stores (s .args .place) (o .result) (s .args .value) (o .ensures) in
+    rw hw (changing-addressed stores (phases.Word (s .args .place) (s .args .value)) (set-fitted (s .args .m) (now (s .args .main)) (now (s .args .ports)) (now (s .args .trail)) (s .args .used) (s .args .place) (s .args .value) (c .before .before .before .before .before .before .before .before .before .before .judge .result) (c .before .before .before .before .before .before .before .before .before .before .judge .ensures) (c .before .before .before .before .before .before .before .before .enum-told .given .1) (c .before .before .before .before .before .is-fitted .result) (c .before .before .before .before .before .is-fitted .ensures) (yes _ (c .before .before .before .before .if1 .left))))
+
+add-requires : tie.Need-add-requires
+add-requires c κs =
+    let s = c .before .before .before .before .before .before .before .before .before .before .before .before .before .before .before .before in
+    let stores = ram (now (s .args .main)) (now (s .args .ports)) in
+    let o = c .before .before .before .word-at in
+    let w = c .before .before .changed-to in
+    let hw = w .ensures ∙ written-over stores (s .args .place) (o .result) (s .args .value) (o .ensures) in
+    let l = passed (s .args .m .p) (length (now (s .args .main))) (length (now (s .args .ports))) (length (now (s .args .trail))) (s .args .used) (c .before .before .before .before .before .before .before .before .before .before .before .before .judge .result) (c .before .before .before .before .before .before .before .before .before .before .before .before .judge .ensures) (c .before .before .before .before .before .before .before .before .before .before .enum-told .given .1) in
+    let k = c .before .before .before .before .before .before .before .before .before .before .before .before .before in (
+      l .used-le,
+      rw (c .before .old-values .ensures) (old-values-good (s .args .m) (record {
+        p = l .p-lt;
+        a = registers s .0;
+        x = registers s .1;
+        y = registers s .2;
+        address = rw hw (changing-addressed stores (phases.Word (s .args .place) (s .args .value)) (set-fitted (s .args .m) (now (s .args .main)) (now (s .args .ports)) (now (s .args .trail)) (s .args .used) (s .args .place) (s .args .value) (c .before .before .before .before .before .before .before .before .before .before .before .before .judge .result) (c .before .before .before .before .before .before .before .before .before .before .before .before .judge .ensures) (c .before .before .before .before .before .before .before .before .before .before .enum-told .given .1) (c .before .before .before .before .before .before .before .is-fitted .result) (c .before .before .before .before .before .before .before .is-fitted .ensures) (yes _ (c .before .before .before .before .before .before .if1 .left))));
+        value = rw hw (changing-value (now (s .args .main)) (now (s .args .ports)) (phases.Word (s .args .place) (s .args .value)) (λ i. omega (arith, k .before .before .slice-known .given i)) (λ i. omega (arith, k .before .slice-known2 .given i)));
+      })),
+    )
 
 enum-known-n : tie.Need-enum-known-n
 enum-known-n c = search needs
@@ -65,10 +110,20 @@ same-length-5 c = search needs
 
 returns-3 : tie.Need-returns-3
 returns-3 c =
-    let d = c .before .before .before .before .before .before .before .before in
-    let s = c .before .before .before .before .before .before .before .before .before .before .before .before .before .before .before .before .before .before .before .before .before .before in
-    set-full (s .args .m) (now (s .args .main)) (now (s .args .ports)) (now (s .args .trail)) (s .args .used) (s .args .place) (s .args .value) (c .before .before .before .before .before .before .before .before .before .before .before .before .before .before .before .before .before .before .judge .result) (c .before .before .before .before .before .before .before .before .before .before .before .before .before .before .before .before .before .before .judge .ensures) (c .before .before .before .before .before .before .before .before .before .before .before .before .before .before .before .before .enum-told .given .1) (c .before .before .before .before .before .before .before .before .before .before .before .before .before .is-fitted .result) (c .before .before .before .before .before .before .before .before .before .before .before .before .before .is-fitted .ensures) (yes _ (c .before .before .before .before .before .before .before .before .before .before .before .before .if1 .left))
-    (d .finish .result) (ram (d .finish .last .1 .1 .0) (d .finish .last .1 .1 .1 .0)) (d .finish .last .1 .1 .1 .1 .0) (d .finish .ensures) (c .enum-told2 .given .1)
+    let s = c .before .before .before .before .before .before .before .before .before .before .before .before .before .before .before .before .before .before .before .before .before in
+    let stores = ram (now (s .args .main)) (now (s .args .ports)) in
+    let o = c .before .before .before .before .before .before .before .before .word-at in
+    let w = c .before .before .before .before .before .before .before .changed-to in
+    let hw = w .ensures ∙ written-over stores (s .args .place) (o .result) (s .args .value) (o .ensures) in
+    let v = c .before .before .before .before .before .before .old-values in
+    let n = c .before .before .before .before .add in
+    set-full (s .args .m) (now (s .args .main)) (now (s .args .ports)) (now (s .args .trail)) (s .args .used) (s .args .place) (s .args .value) (c .before .before .before .before .before .before .before .before .before .before .before .before .before .before .before .before .before .judge .result) (c .before .before .before .before .before .before .before .before .before .before .before .before .before .before .before .before .before .judge .ensures) (c .before .before .before .before .before .before .before .before .before .before .before .before .before .before .before .enum-told .given .1) (c .before .before .before .before .before .before .before .before .before .before .before .before .is-fitted .result) (c .before .before .before .before .before .before .before .before .before .before .before .before .is-fitted .ensures) (yes _ (c .before .before .before .before .before .before .before .before .before .before .before .if1 .left)) added.Full stores (n .last .0)
+    (finish-full (s .args .m) (record { machine = s .args .m; written = phases.Word (s .args .place) (s .args .value) }) stores (now (s .args .trail)) (s .args .used) (w .result) (v .result) (n .result) (n .last .0) hw (v .ensures) (n .ensures) (c .enum-told2 .given .1)) refl
+
+put-word-requires : tie.Need-put-word-requires
+put-word-requires c κs =
+    let s = c .before .before .before .before .before .before .before .before .before .before .before .before .before .before .before .before .before .before .before .before .before .before .before .before in
+    set-fitted (s .args .m) (now (s .args .main)) (now (s .args .ports)) (now (s .args .trail)) (s .args .used) (s .args .place) (s .args .value) (c .before .before .before .before .before .before .before .before .before .before .before .before .before .before .before .before .before .before .before .before .judge .result) (c .before .before .before .before .before .before .before .before .before .before .before .before .before .before .before .before .before .before .before .before .judge .ensures) (c .before .before .before .before .before .before .before .before .before .before .before .before .before .before .before .before .before .before .enum-told .given .1) (c .before .before .before .before .before .before .before .before .before .before .before .before .before .before .before .is-fitted .result) (c .before .before .before .before .before .before .before .before .before .before .before .before .before .before .before .is-fitted .ensures) (yes _ (c .before .before .before .before .before .before .before .before .before .before .before .before .before .before .if1 .left))
 
 same-length-6 : tie.Need-same-length-6
 same-length-6 c = search needs
@@ -81,10 +136,17 @@ same-length-8 c = search needs
 
 returns-4 : tie.Need-returns-4
 returns-4 c =
-    let d = c .before .before .before .before .before .before .before .before .before in
-    let s = c .before .before .before .before .before .before .before .before .before .before .before .before .before .before .before .before .before .before .before .before .before .before .before in
-    set-done (s .args .m) (now (s .args .main)) (now (s .args .ports)) (now (s .args .trail)) (s .args .used) (s .args .place) (s .args .value) (c .before .before .before .before .before .before .before .before .before .before .before .before .before .before .before .before .before .before .before .judge .result) (c .before .before .before .before .before .before .before .before .before .before .before .before .before .before .before .before .before .before .before .judge .ensures) (c .before .before .before .before .before .before .before .before .before .before .before .before .before .before .before .before .before .enum-told .given .1) (c .before .before .before .before .before .before .before .before .before .before .before .before .before .before .is-fitted .result) (c .before .before .before .before .before .before .before .before .before .before .before .before .before .before .is-fitted .ensures) (yes _ (c .before .before .before .before .before .before .before .before .before .before .before .before .before .if1 .left))
-    (d .finish .result) (ram (d .finish .last .1 .1 .0) (d .finish .last .1 .1 .1 .0)) (d .finish .last .1 .1 .1 .1 .0) (d .finish .ensures) (c .before .n .given .0 .0) (c .before .n .given .1)
+    let s = c .before .before .before .before .before .before .before .before .before .before .before .before .before .before .before .before .before .before .before .before .before .before .before .before .before .before .before .before .before in
+    let stores = ram (now (s .args .main)) (now (s .args .ports)) in
+    let o = c .before .before .before .before .before .before .before .before .before .before .before .before .before .before .before .before .word-at in
+    let w = c .before .before .before .before .before .before .before .before .before .before .before .before .before .before .before .changed-to in
+    let hw = w .ensures ∙ written-over stores (s .args .place) (o .result) (s .args .value) (o .ensures) in
+    let v = c .before .before .before .before .before .before .before .before .before .before .before .before .before .before .old-values in
+    let n = c .before .before .before .before .before .before .before .before .before .before .before .before .add in
+    let k = c .before .before .before .before .before .before .before .before .n .given in
+    let u = c .before .before .before .before .put-word in
+    set-done (s .args .m) (now (s .args .main)) (now (s .args .ports)) (now (s .args .trail)) (s .args .used) (s .args .place) (s .args .value) (c .before .before .before .before .before .before .before .before .before .before .before .before .before .before .before .before .before .before .before .before .before .before .before .before .before .judge .result) (c .before .before .before .before .before .before .before .before .before .before .before .before .before .before .before .before .before .before .before .before .before .before .before .before .before .judge .ensures) (c .before .before .before .before .before .before .before .before .before .before .before .before .before .before .before .before .before .before .before .before .before .before .before .enum-told .given .1) (c .before .before .before .before .before .before .before .before .before .before .before .before .before .before .before .before .before .before .before .before .is-fitted .result) (c .before .before .before .before .before .before .before .before .before .before .before .before .before .before .before .before .before .before .before .before .is-fitted .ensures) (yes _ (c .before .before .before .before .before .before .before .before .before .before .before .before .before .before .before .before .before .before .before .if1 .left)) (added.Used (k .0 .0)) (ram (u .last .0) (u .last .1 .0)) (n .last .0)
+    (finish-done (s .args .m) (record { machine = s .args .m; written = phases.Word (s .args .place) (s .args .value) }) stores (now (s .args .trail)) (s .args .used) (w .result) (v .result) (n .result) (n .last .0) hw (v .ensures) (n .ensures) (k .0 .0) (ram (u .last .0) (u .last .1 .0)) (k .1) (u .ensures)) (k .0 .0) refl
 
 pub set-spec : {M : Type 1} → statement M
 set-spec =
@@ -98,13 +160,17 @@ set-spec =
     same-length
     same-length-2
     returns-2
-    finish-requires
+    word-at-requires
+    changed-to-requires
+    old-values-requires
+    add-requires
     enum-known-n
     enum-told-2
     same-length-3
     same-length-4
     same-length-5
     returns-3
+    put-word-requires
     same-length-6
     same-length-7
     same-length-8

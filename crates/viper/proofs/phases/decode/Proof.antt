@@ -1,5 +1,6 @@
 -- Each field of the answer is what its function ensures.
-use mathlib.Core.Path.{_∙_}
+use mathlib.Core.Path.{refl, _∙_}
+use native.Mathlib.Omega.{arith}
 use Rattle.report.specs.Section3.{OFFSET}
 use borrow.Author.Needs.{needs}
 use Rattle.viper.proofs.phases.decode.Statement.{statement}
@@ -14,19 +15,27 @@ take-apart-requires c κs = search needs
 address-requires : tie.Need-address-requires
 address-requires c κs = search needs
 
+add-next : tie.Need-add-next
+add-next c = omega arith
+
+register-requires : tie.Need-register-requires
+register-requires c κs = omega arith
+
 decide-requires : tie.Need-decide-requires
 decide-requires c κs = search needs
 
 returns : tie.Need-returns
 returns c =
-    let f = c .before .before .take-apart .ensures in
+    let f = c .before .before .before .before .take-apart .ensures in
     record {
       fields = f;
-      address = c .before .address .ensures ∙ rw (f .of-msf, f .of-addr);
+      address = c .before .before .before .address .ensures ∙ rw (f .of-msf, f .of-addr);
+      next = refl;
+      r = c .before .register .ensures;
       part = c .decide .ensures;
     }
 
 pub decode-spec : {M : Type 1} → statement M
 decode-spec =
     tie.close
-    (tie.spec class-of-requires take-apart-requires address-requires decide-requires returns)
+    (tie.spec class-of-requires take-apart-requires address-requires add-next register-requires decide-requires returns)
