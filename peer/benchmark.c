@@ -23,11 +23,13 @@ enum { TRAIL = 14 * MOST_STEPS, ROUNDS = 9 };
 
 struct routine {
     const char *name;
+    uint32_t start; /* its address, where P begins */
     uint32_t words[32];
 };
 
 static const struct routine routines[] = {
     {"arithmetic",
+     0x000,
      {
          0x00400003, /* 00 A := A + 3, B := carry */
          0x008000FF, /* 01 A := A XOR FF */
@@ -39,6 +41,7 @@ static const struct routine routines[] = {
          0x06300000, /* 07 P := 00 */
      }},
     {"memory",
+     0x000,
      {
          0x02300000, /* 00 X := 0 */
          0x20300100, /* 01 A := main 100+X */
@@ -50,6 +53,7 @@ static const struct routine routines[] = {
          0x06300000, /* 07 P := 00 */
      }},
     {"ports",
+     0x000,
      {
          0x02300000, /* 00 X := 0 */
          0x20200000, /* 01 A := port X */
@@ -62,6 +66,7 @@ static const struct routine routines[] = {
          0x06300000, /* 08 P := 00 */
      }},
     {"calls",
+     0x000,
      {
          0x02300014, /* 00 X := 14 */
          0x06100010, /* 01 call 10 */
@@ -76,6 +81,22 @@ static const struct routine routines[] = {
          0x06100010,          /* 19 call 10 */
          0x14300030,          /* 1A Y := main 30 */
          0x86500000,          /* 1B return: P := Y + 0 */
+     }},
+    /* The numbers of its records have more than one byte: P, and most old values. */
+    {"far",
+     0x400,
+     {
+         0x02300000, /* 400 X := 0 */
+         0x20300500, /* 401 A := main 500+X */
+         0x00400457, /* 402 A := A + 457 */
+         0x2E000500, /* 403 main 500+X := A */
+         0x42400001, /* 404 X := X + 1 */
+         0x41000040, /* 405 B := X < 40 */
+         0x08300401, /* 406 if B, P := 401 */
+         0x06100410, /* 407 call 410 */
+         0x06300400, /* 408 P := 400 */
+         [0x10] = 0x00800FF0, /* 410 A := A XOR FF0 */
+         0x86500000,          /* 411 return: P := Y + 0 */
      }},
 };
 
@@ -109,9 +130,10 @@ static void load(struct side *side, const struct routine *routine, size_t main_l
 {
     struct board *b = &side->board;
     memset(b->regs, 0, sizeof b->regs);
+    b->regs[3] = routine->start;
     memset(b->main, 0, main_length * sizeof *b->main);
     memset(b->ports, 0, ports_length * sizeof *b->ports);
-    memcpy(b->main, routine->words, sizeof routine->words);
+    memcpy(b->main + routine->start, routine->words, sizeof routine->words);
     b->main_length = main_length;
     b->ports_length = ports_length;
     b->trail_length = TRAIL;
