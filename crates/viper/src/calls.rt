@@ -52,6 +52,17 @@ fn judge(p: u32, main: usize, ports: usize, trail: usize, used: usize) -> Answer
     Answer::Done
 }
 
+// What a call came to. Made in one place, so that the compiler keeps it in registers, whichever way out a call leaves by.
+fn answered(machine: Machine, used: usize, answer: Answer) -> Outcome
+    ensures { λ r. ⌜ r ≡ record { machine = machine; used = used; answer = answer } ⌝ }
+{
+    Outcome {
+        machine,
+        used,
+        answer,
+    }
+}
+
 // What a run of steps came to: the machine, the bytes in use, the steps done and how it ended.
 struct Advanced {
     machine: Machine,
@@ -130,27 +141,15 @@ pub fn step(
 {
     let first = judge(m.p, main.len(), ports.len(), trail.len(), used);
     if let Answer::Refused(r) = first {
-        return Outcome {
-            machine: m,
-            used,
-            answer: Answer::Refused(r),
-        };
+        return answered(m, used, Answer::Refused(r));
     }
     if m.stop {
-        return Outcome {
-            machine: m,
-            used,
-            answer: Answer::Refused(Refusal::Stopped),
-        };
+        return answered(m, used, Answer::Refused(Refusal::Stopped));
     }
     let a = advance(m, main, ports, trail, used, 1);
     let stepped = a.machine;
     let ending = a.ending;
-    Outcome {
-        machine: stepped,
-        used: a.used,
-        answer: step_answer(ending),
-    }
+    answered(stepped, a.used, step_answer(ending))
 }
 
 // The answer of a step, from how a run of one step ended.
@@ -199,32 +198,16 @@ fn note(m: Machine, after: Machine, trail: &mut [u8], used: usize) -> Outcome
     ensures { λ r. ⌜ ((main ports : List ℕ) → told r main ports (now (trail .exit)) ≡ noted m after (ram main ports) (now (trail .entry)) used) ⌝ }
 {
     if m.p >= 0x10_0000 {
-        return Outcome {
-            machine: m,
-            used,
-            answer: Answer::Refused(Refusal::PTooLarge),
-        };
+        return answered(m, used, Answer::Refused(Refusal::PTooLarge));
     }
     if used > trail.len() {
-        return Outcome {
-            machine: m,
-            used,
-            answer: Answer::Refused(Refusal::CountTooLarge),
-        };
+        return answered(m, used, Answer::Refused(Refusal::CountTooLarge));
     }
     let o = trail::records::old_values(m, after, Word::Kept);
     let Added::Used(n) = trail::records::add(trail, used, o) else {
-        return Outcome {
-            machine: m,
-            used,
-            answer: Answer::Refused(Refusal::TrailFull),
-        };
+        return answered(m, used, Answer::Refused(Refusal::TrailFull));
     };
-    Outcome {
-        machine: after,
-        used: n,
-        answer: Answer::Done,
-    }
+    answered(after, n, Answer::Done)
 }
 
 // Clears A, X, Y, P, B and STOP.
@@ -271,34 +254,18 @@ pub fn set(
 {
     let first = judge(m.p, main.len(), ports.len(), trail.len(), used);
     if let Answer::Refused(r) = first {
-        return Outcome {
-            machine: m,
-            used,
-            answer: Answer::Refused(r),
-        };
+        return answered(m, used, Answer::Refused(r));
     }
     if !is_fitted(main, ports, place, 1) {
-        return Outcome {
-            machine: m,
-            used,
-            answer: Answer::Refused(Refusal::Unfitted),
-        };
+        return answered(m, used, Answer::Refused(Refusal::Unfitted));
     }
     let old = word_at(main, ports, place);
     let o = trail::records::old_values(m, m, changed_to(place, old, value));
     let Added::Used(n) = trail::records::add(trail, used, o) else {
-        return Outcome {
-            machine: m,
-            used,
-            answer: Answer::Refused(Refusal::TrailFull),
-        };
+        return answered(m, used, Answer::Refused(Refusal::TrailFull));
     };
     put_word(main, ports, place, value);
-    Outcome {
-        machine: m,
-        used: n,
-        answer: Answer::Done,
-    }
+    answered(m, n, Answer::Done)
 }
 
 // The machine with the old values of a record: what is not marked stays.
@@ -332,17 +299,6 @@ fn word_restored(o: OldValues, main: &mut [u32], ports: &mut [u32])
                 o.value,
             );
         }
-    }
-}
-
-// What take back came to. Made in one place, so that the compiler keeps it in registers, whichever way out it leaves by.
-fn answered(machine: Machine, used: usize, answer: Answer) -> Outcome
-    ensures { λ r. ⌜ r ≡ record { machine = machine; used = used; answer = answer } ⌝ }
-{
-    Outcome {
-        machine,
-        used,
-        answer,
     }
 }
 

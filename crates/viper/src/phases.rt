@@ -35,9 +35,8 @@ pub enum Fetched {
     Unfitted,
 }
 
-// A word decoded on a machine: its class, its fields, its whole address, the P after it, R, and the part of the order that it comes to.
+// A word decoded on a machine: its fields, its whole address, the P after it, R, and the part of the order that it comes to.
 pub struct Decoded {
-    pub class: u8,
     pub fields: Fields,
     pub address: u32,
     pub next: u32,
@@ -73,7 +72,6 @@ pub(crate) fn decode(table: &[u8; 1024], m: Machine, w: u32) -> Decoded
     let r = instruction::register(fields.rsf, m.a, m.x, m.y, next);
     let part = instruction::decide(w, class, m.p, address, m.b);
     Decoded {
-        class,
         fields,
         address,
         next,
