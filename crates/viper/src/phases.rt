@@ -157,7 +157,7 @@ fn deliver(m: Machine, f: Fields, n: u32, t: AluResult, trail: &mut [u8], used: 
     finish_flags(m, t.value % 0x10_0000, t.b, t.stop, trail, used)
 }
 
-// One step: the phases in a row, by the part of the order.
+// One step: fetch, decode, and then by the part of the order its operands, what it executes (a comparison, the ALU, or nothing) and its finish.
 pub(crate) fn step_once(
     table: &[u8; 1024],
     m: Machine,
