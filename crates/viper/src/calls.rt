@@ -31,6 +31,7 @@ ghost use Rattle.viper.specs.Operations.{reset as reset·op, force as fo
 ghost use Rattle.viper.specs.Runs.{over-and-over, run-outcome};
 ghost use Rattle.viper.specs.TakingBack.{back-outcome};
 ghost use Rattle.viper.specs.Told.{bench, told, run-told};
+ghost use Rattle.viper.specs.declared.Answer.the-variants.{Refused};
 ghost use Rattle.viper.specs.Judging.{first-refusals, Lawful, ran-told, answer-by};
 
 // Refusals 1 to 3, by P, the words of both stores, the bytes of the trail and those in use.
@@ -52,14 +53,14 @@ fn judge(p: u32, main: usize, ports: usize, trail: usize, used: usize) -> Answer
     Answer::Done
 }
 
-// What a call came to. Made in one place, so that the compiler keeps it in registers, whichever way out a call leaves by.
-fn answered(machine: Machine, used: usize, answer: Answer) -> Outcome
-    ensures { λ r. ⌜ r ≡ record { machine = machine; used = used; answer = answer } ⌝ }
+// A refused call's outcome: the machine and the count as they were.
+fn refuse(m: Machine, used: usize, refusal: Refusal) -> Outcome
+    ensures { λ r. ⌜ r ≡ record { machine = m; used = used; answer = Refused refusal } ⌝ }
 {
     Outcome {
-        machine,
+        machine: m,
         used,
-        answer,
+        answer: Answer::Refused(refusal),
     }
 }
 
@@ -141,15 +142,19 @@ pub fn step(
 {
     let first = judge(m.p, main.len(), ports.len(), trail.len(), used);
     if let Answer::Refused(r) = first {
-        return answered(m, used, Answer::Refused(r));
+        return refuse(m, used, r);
     }
     if m.stop {
-        return answered(m, used, Answer::Refused(Refusal::Stopped));
+        return refuse(m, used, Refusal::Stopped);
     }
     let a = advance(m, main, ports, trail, used, 1);
     let stepped = a.machine;
     let ending = a.ending;
-    answered(stepped, a.used, step_answer(ending))
+    Outcome {
+        machine: stepped,
+        used: a.used,
+        answer: step_answer(ending),
+    }
 }
 
 // The answer of a step, from how a run of one step ended.
@@ -198,16 +203,20 @@ fn note(m: Machine, after: Machine, trail: &mut [u8], used: usize) -> Outcome
     ensures { λ r. ⌜ ((main ports : List ℕ) → told r main ports (now (trail .exit)) ≡ noted m after (ram main ports) (now (trail .entry)) used) ⌝ }
 {
     if m.p >= 0x10_0000 {
-        return answered(m, used, Answer::Refused(Refusal::PTooLarge));
+        return refuse(m, used, Refusal::PTooLarge);
     }
     if used > trail.len() {
-        return answered(m, used, Answer::Refused(Refusal::CountTooLarge));
+        return refuse(m, used, Refusal::CountTooLarge);
     }
     let o = trail::records::old_values(m, after, Word::Kept);
     let Added::Used(n) = trail::records::add(trail, used, o) else {
-        return answered(m, used, Answer::Refused(Refusal::TrailFull));
+        return refuse(m, used, Refusal::TrailFull);
     };
-    answered(after, n, Answer::Done)
+    Outcome {
+        machine: after,
+        used: n,
+        answer: Answer::Done,
+    }
 }
 
 // Clears A, X, Y, P, B and STOP.
@@ -254,18 +263,22 @@ pub fn set(
 {
     let first = judge(m.p, main.len(), ports.len(), trail.len(), used);
     if let Answer::Refused(r) = first {
-        return answered(m, used, Answer::Refused(r));
+        return refuse(m, used, r);
     }
     if !is_fitted(main, ports, place, 1) {
-        return answered(m, used, Answer::Refused(Refusal::Unfitted));
+        return refuse(m, used, Refusal::Unfitted);
     }
     let old = word_at(main, ports, place);
     let o = trail::records::old_values(m, m, changed_to(place, old, value));
     let Added::Used(n) = trail::records::add(trail, used, o) else {
-        return answered(m, used, Answer::Refused(Refusal::TrailFull));
+        return refuse(m, used, Refusal::TrailFull);
     };
     put_word(main, ports, place, value);
-    answered(m, n, Answer::Done)
+    Outcome {
+        machine: m,
+        used: n,
+        answer: Answer::Done,
+    }
 }
 
 // The machine with the old values of a record: what is not marked stays.
@@ -299,6 +312,17 @@ fn word_restored(o: OldValues, main: &mut [u32], ports: &mut [u32])
                 o.value,
             );
         }
+    }
+}
+
+// What take back came to. Made in one place of its own, so that the compiler keeps it in registers, whichever way out it leaves by.
+fn answered(machine: Machine, used: usize, answer: Answer) -> Outcome
+    ensures { λ r. ⌜ r ≡ record { machine = machine; used = used; answer = answer } ⌝ }
+{
+    Outcome {
+        machine,
+        used,
+        answer,
     }
 }
 

@@ -13,17 +13,17 @@ use Rattle.viper.proofs.calls.note.Tie as tie
 registers : (s : tie.Start) → (s .args .m .a < 2 ^ 32) × (s .args .m .x < 2 ^ 32) × (s .args .m .y < 2 ^ 32)
 registers s = (omega arith, omega arith, omega arith)
 
-answered-requires : tie.Need-answered-requires
-answered-requires c κs = search needs
+refuse-requires : tie.Need-refuse-requires
+refuse-requires c κs = search needs
 
 returns : tie.Need-returns
-returns c = λ main ports. rw (c .answered .ensures) (let s = c .before .before .before .before in noted-p (s .args .m) (s .args .after) (ram main ports) (now (s .args .trail)) (s .args .used) (c .before .if1 .taken))
+returns c = λ main ports. rw (c .refuse .ensures) (let s = c .before .before .before .before in noted-p (s .args .m) (s .args .after) (ram main ports) (now (s .args .trail)) (s .args .used) (c .before .if1 .taken))
 
-answered-requires-2 : tie.Need-answered-requires-2
-answered-requires-2 c κs = search needs
+refuse-requires-2 : tie.Need-refuse-requires-2
+refuse-requires-2 c κs = search needs
 
 returns-2 : tie.Need-returns-2
-returns-2 c = λ main ports. rw (c .answered2 .ensures) (let s = c .before .before .before .before .before in noted-count (s .args .m) (s .args .after) (ram main ports) (now (s .args .trail)) (s .args .used) (c .before .before .if1 .left) (c .before .if2 .taken))
+returns-2 c = λ main ports. rw (c .refuse2 .ensures) (let s = c .before .before .before .before .before in noted-count (s .args .m) (s .args .after) (ram main ports) (now (s .args .trail)) (s .args .used) (c .before .before .if1 .left) (c .before .if2 .taken))
 
 old-values-requires : tie.Need-old-values-requires
 old-values-requires c κs = search needs
@@ -43,36 +43,32 @@ enum-told c = search needs
 same-length : tie.Need-same-length
 same-length c = search needs
 
-answered-requires-3 : tie.Need-answered-requires-3
-answered-requires-3 c κs = search needs
+refuse-requires-3 : tie.Need-refuse-requires-3
+refuse-requires-3 c κs = search needs
 
 returns-3 : tie.Need-returns-3
-returns-3 c = λ main ports. rw (c .answered3 .ensures) (let s = c .before .before .before .before .before .before .before .before .before .before .before .before in let d = c .before .before .before .before .before in noted-full (s .args .m) (s .args .after) (ram main ports) (now (s .args .trail)) (s .args .used) (d .before .before .before .before .if1 .left) (d .before .before .before .if2 .left) (d .before .before .old-values .result) (d .add .result) (d .add .last .0) (d .before .before .old-values .ensures) (d .add .ensures) (c .before .enum-told .given .1))
+returns-3 c = λ main ports. rw (c .refuse3 .ensures) (let s = c .before .before .before .before .before .before .before .before .before .before .before .before in let d = c .before .before .before .before .before in noted-full (s .args .m) (s .args .after) (ram main ports) (now (s .args .trail)) (s .args .used) (d .before .before .before .before .if1 .left) (d .before .before .before .if2 .left) (d .before .before .old-values .result) (d .add .result) (d .add .last .0) (d .before .before .old-values .ensures) (d .add .ensures) (c .before .enum-told .given .1))
 
 same-length-2 : tie.Need-same-length-2
 same-length-2 c = search needs
 
-answered-requires-4 : tie.Need-answered-requires-4
-answered-requires-4 c κs = search needs
-
 returns-4 : tie.Need-returns-4
-returns-4 c = λ main ports. rw (c .answered4 .ensures) (let s = c .before .before .before .before .before .before .before .before .before .before .before .before .before in let d = c .before .before .before .before .before .before in noted-done (s .args .m) (s .args .after) (ram main ports) (now (s .args .trail)) (s .args .used) (d .before .before .before .before .if1 .left) (d .before .before .before .if2 .left) (d .before .before .old-values .result) (d .add .result) (d .add .last .0) (d .before .before .old-values .ensures) (d .add .ensures) (c .before .before .n .given .0 .0) (c .before .before .n .given .1))
+returns-4 c = λ main ports. let s = c .before .before .before .before .before .before .before .before .before .before .before .before in let d = c .before .before .before .before .before in noted-done (s .args .m) (s .args .after) (ram main ports) (now (s .args .trail)) (s .args .used) (d .before .before .before .before .if1 .left) (d .before .before .before .if2 .left) (d .before .before .old-values .result) (d .add .result) (d .add .last .0) (d .before .before .old-values .ensures) (d .add .ensures) (c .before .n .given .0 .0) (c .before .n .given .1)
 
 pub note-spec : {M : Type 1} → statement M
 note-spec =
     tie.close
     (tie.spec
-    answered-requires
+    refuse-requires
     returns
-    answered-requires-2
+    refuse-requires-2
     returns-2
     old-values-requires
     add-requires
     enum-known-n
     enum-told
-    answered-requires-3
+    refuse-requires-3
     same-length
     returns-3
-    answered-requires-4
     same-length-2
     returns-4)

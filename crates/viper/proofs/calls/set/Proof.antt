@@ -34,12 +34,12 @@ judge-requires c κs = search needs
 enum-known-first : tie.Need-enum-known-first
 enum-known-first c = search needs
 
-answered-requires : tie.Need-answered-requires
-answered-requires c κs = search needs
+refuse-requires : tie.Need-refuse-requires
+refuse-requires c κs = search needs
 
 returns : tie.Need-returns
 returns c =
-    rw (c .answered .ensures)
+    rw (c .refuse .ensures)
     (let s = c .before .before .before .before .before .before .before .before in
     refused-first (s .args .m) (now (s .args .main)) (now (s .args .ports)) (now (s .args .trail)) (s .args .used) (set-word (s .args .place) (s .args .value)) (c .before .before .before .before .judge .result) (c .before .before .first .given .0 .0) refl (c .before .before .before .before .judge .ensures) (c .before .before .first .given .1))
 
@@ -55,12 +55,12 @@ same-length c = search needs
 same-length-2 : tie.Need-same-length-2
 same-length-2 c = search needs
 
-answered-requires-2 : tie.Need-answered-requires-2
-answered-requires-2 c κs = search needs
+refuse-requires-2 : tie.Need-refuse-requires-2
+refuse-requires-2 c κs = search needs
 
 returns-2 : tie.Need-returns-2
 returns-2 c =
-    rw (c .answered2 .ensures)
+    rw (c .refuse2 .ensures)
     (let s = c .before .before .before .before .before .before .before .before .before .before .before in
     set-unfitted (s .args .m) (now (s .args .main)) (now (s .args .ports)) (now (s .args .trail)) (s .args .used) (s .args .place) (s .args .value) (c .before .before .before .before .before .before .before .judge .result) (c .before .before .before .before .before .before .before .judge .ensures) (c .before .before .before .before .before .enum-told .given .1) (c .before .before .is-fitted .result) (c .before .before .is-fitted .ensures) (no _ (c .before .if1 .taken)))
 
@@ -116,12 +116,12 @@ same-length-4 c = search needs
 same-length-5 : tie.Need-same-length-5
 same-length-5 c = search needs
 
-answered-requires-3 : tie.Need-answered-requires-3
-answered-requires-3 c κs = search needs
+refuse-requires-3 : tie.Need-refuse-requires-3
+refuse-requires-3 c κs = search needs
 
 returns-3 : tie.Need-returns-3
 returns-3 c =
-    rw (c .answered3 .ensures)
+    rw (c .refuse3 .ensures)
     (let s = c .before .before .before .before .before .before .before .before .before .before .before .before .before .before .before .before .before .before .before .before .before .before in
     let stores = ram (now (s .args .main)) (now (s .args .ports)) in
     let o = c .before .before .before .before .before .before .before .before .before .word-at in
@@ -146,23 +146,19 @@ same-length-7 c = search needs
 same-length-8 : tie.Need-same-length-8
 same-length-8 c = search needs
 
-answered-requires-4 : tie.Need-answered-requires-4
-answered-requires-4 c κs = search needs
-
 returns-4 : tie.Need-returns-4
 returns-4 c =
-    rw (c .answered4 .ensures)
-    (let s = c .before .before .before .before .before .before .before .before .before .before .before .before .before .before .before .before .before .before .before .before .before .before .before .before .before .before .before .before .before .before in
+    let s = c .before .before .before .before .before .before .before .before .before .before .before .before .before .before .before .before .before .before .before .before .before .before .before .before .before .before .before .before .before in
     let stores = ram (now (s .args .main)) (now (s .args .ports)) in
-    let o = c .before .before .before .before .before .before .before .before .before .before .before .before .before .before .before .before .before .word-at in
-    let w = c .before .before .before .before .before .before .before .before .before .before .before .before .before .before .before .before .changed-to in
+    let o = c .before .before .before .before .before .before .before .before .before .before .before .before .before .before .before .before .word-at in
+    let w = c .before .before .before .before .before .before .before .before .before .before .before .before .before .before .before .changed-to in
     let hw = w .ensures ∙ written-over stores (s .args .place) (o .result) (s .args .value) (o .ensures) in
-    let v = c .before .before .before .before .before .before .before .before .before .before .before .before .before .before .before .old-values in
-    let n = c .before .before .before .before .before .before .before .before .before .before .before .before .before .add in
-    let k = c .before .before .before .before .before .before .before .before .before .n .given in
-    let u = c .before .before .before .before .before .put-word in
-    set-done (s .args .m) (now (s .args .main)) (now (s .args .ports)) (now (s .args .trail)) (s .args .used) (s .args .place) (s .args .value) (c .before .before .before .before .before .before .before .before .before .before .before .before .before .before .before .before .before .before .before .before .before .before .before .before .before .before .judge .result) (c .before .before .before .before .before .before .before .before .before .before .before .before .before .before .before .before .before .before .before .before .before .before .before .before .before .before .judge .ensures) (c .before .before .before .before .before .before .before .before .before .before .before .before .before .before .before .before .before .before .before .before .before .before .before .before .enum-told .given .1) (c .before .before .before .before .before .before .before .before .before .before .before .before .before .before .before .before .before .before .before .before .before .is-fitted .result) (c .before .before .before .before .before .before .before .before .before .before .before .before .before .before .before .before .before .before .before .before .before .is-fitted .ensures) (yes _ (c .before .before .before .before .before .before .before .before .before .before .before .before .before .before .before .before .before .before .before .before .if1 .left)) (added.Used (k .0 .0)) (ram (u .last .0) (u .last .1 .0)) (n .last .0)
-    (finish-done (s .args .m) (record { machine = s .args .m; written = phases.Word (s .args .place) (s .args .value) }) stores (now (s .args .trail)) (s .args .used) (w .result) (v .result) (n .result) (n .last .0) hw (v .ensures) (n .ensures) (k .0 .0) (ram (u .last .0) (u .last .1 .0)) (k .1) (u .ensures)) (k .0 .0) refl)
+    let v = c .before .before .before .before .before .before .before .before .before .before .before .before .before .before .old-values in
+    let n = c .before .before .before .before .before .before .before .before .before .before .before .before .add in
+    let k = c .before .before .before .before .before .before .before .before .n .given in
+    let u = c .before .before .before .before .put-word in
+    set-done (s .args .m) (now (s .args .main)) (now (s .args .ports)) (now (s .args .trail)) (s .args .used) (s .args .place) (s .args .value) (c .before .before .before .before .before .before .before .before .before .before .before .before .before .before .before .before .before .before .before .before .before .before .before .before .before .judge .result) (c .before .before .before .before .before .before .before .before .before .before .before .before .before .before .before .before .before .before .before .before .before .before .before .before .before .judge .ensures) (c .before .before .before .before .before .before .before .before .before .before .before .before .before .before .before .before .before .before .before .before .before .before .before .enum-told .given .1) (c .before .before .before .before .before .before .before .before .before .before .before .before .before .before .before .before .before .before .before .before .is-fitted .result) (c .before .before .before .before .before .before .before .before .before .before .before .before .before .before .before .before .before .before .before .before .is-fitted .ensures) (yes _ (c .before .before .before .before .before .before .before .before .before .before .before .before .before .before .before .before .before .before .before .if1 .left)) (added.Used (k .0 .0)) (ram (u .last .0) (u .last .1 .0)) (n .last .0)
+    (finish-done (s .args .m) (record { machine = s .args .m; written = phases.Word (s .args .place) (s .args .value) }) stores (now (s .args .trail)) (s .args .used) (w .result) (v .result) (n .result) (n .last .0) hw (v .ensures) (n .ensures) (k .0 .0) (ram (u .last .0) (u .last .1 .0)) (k .1) (u .ensures)) (k .0 .0) refl
 
 pub set-spec : {M : Type 1} → statement M
 set-spec =
@@ -170,11 +166,11 @@ set-spec =
     (tie.spec
     judge-requires
     enum-known-first
-    answered-requires
+    refuse-requires
     returns
     enum-told
     is-fitted-requires
-    answered-requires-2
+    refuse-requires-2
     same-length
     same-length-2
     returns-2
@@ -184,13 +180,12 @@ set-spec =
     add-requires
     enum-known-n
     enum-told-2
-    answered-requires-3
+    refuse-requires-3
     same-length-3
     same-length-4
     same-length-5
     returns-3
     put-word-requires
-    answered-requires-4
     same-length-6
     same-length-7
     same-length-8

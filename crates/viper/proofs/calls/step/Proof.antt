@@ -16,23 +16,23 @@ judge-requires c κs = search needs
 enum-known-first : tie.Need-enum-known-first
 enum-known-first c = search needs
 
-answered-requires : tie.Need-answered-requires
-answered-requires c κs = search needs
+refuse-requires : tie.Need-refuse-requires
+refuse-requires c κs = search needs
 
 returns : tie.Need-returns
 returns c =
-    rw (c .answered .ensures)
+    rw (c .refuse .ensures)
     (let s = c .before .before .before .before .before .before .before .before in refused-first (s .args .m) (now (s .args .main)) (now (s .args .ports)) (now (s .args .trail)) (s .args .used) operations.step (c .before .before .before .before .judge .result) (c .before .before .first .given .0 .0) refl (c .before .before .before .before .judge .ensures) (c .before .before .first .given .1))
 
 enum-told : tie.Need-enum-told
 enum-told c = search needs
 
-answered-requires-2 : tie.Need-answered-requires-2
-answered-requires-2 c κs = search needs
+refuse-requires-2 : tie.Need-refuse-requires-2
+refuse-requires-2 c κs = search needs
 
 returns-2 : tie.Need-returns-2
 returns-2 c =
-    rw (c .answered2 .ensures)
+    rw (c .refuse2 .ensures)
     (let s = c .before .before .before .before .before .before .before .before in refused-stopped (s .args .m) (now (s .args .main)) (now (s .args .ports)) (now (s .args .trail)) (s .args .used) (c .before .before .before .before .judge .result) (c .before .before .before .before .judge .ensures) (c .before .before .enum-told .given .1) (c .before .if1 .taken))
 
 advance-requires : tie.Need-advance-requires
@@ -50,17 +50,13 @@ same-length-2 c = search needs
 same-length-3 : tie.Need-same-length-3
 same-length-3 c = search needs
 
-answered-requires-3 : tie.Need-answered-requires-3
-answered-requires-3 c κs = search needs
-
 returns-3 : tie.Need-returns-3
 returns-3 c =
-    rw (c .answered3 .ensures)
-    (let s = c .before .before .before .before .before .before .before .before .before .before .before .before .before .before .before .before .before .before .before .before in
-    let a = c .before .before .before .before .before .before .before .before .before .advance in
-    rw (c .before .step-answer .ensures)
-    (stepped-once (s .args .m) (now (s .args .main)) (now (s .args .ports)) (now (s .args .trail)) (s .args .used) (passed (s .args .m .p) (length (now (s .args .main))) (length (now (s .args .ports))) (length (now (s .args .trail))) (s .args .used) (c .before .before .before .before .before .before .before .before .before .before .before .before .before .before .before .before .judge .result) (c .before .before .before .before .before .before .before .before .before .before .before .before .before .before .before .before .judge .ensures) (c .before .before .before .before .before .before .before .before .before .before .before .before .before .before .enum-told .given .1)) (c .before .before .before .before .before .before .before .before .before .before .before .before .before .if1 .left)
-    (ran-told (a .result) (a .last .1 .0) (a .last .1 .1 .0) (a .last .1 .1 .1 .0)) (a .ensures)))
+    let s = c .before .before .before .before .before .before .before .before .before .before .before .before .before .before .before .before .before .before .before in
+    let a = c .before .before .before .before .before .before .before .before .advance in
+    rw (c .step-answer .ensures)
+    (stepped-once (s .args .m) (now (s .args .main)) (now (s .args .ports)) (now (s .args .trail)) (s .args .used) (passed (s .args .m .p) (length (now (s .args .main))) (length (now (s .args .ports))) (length (now (s .args .trail))) (s .args .used) (c .before .before .before .before .before .before .before .before .before .before .before .before .before .before .before .judge .result) (c .before .before .before .before .before .before .before .before .before .before .before .before .before .before .before .judge .ensures) (c .before .before .before .before .before .before .before .before .before .before .before .before .before .enum-told .given .1)) (c .before .before .before .before .before .before .before .before .before .before .before .before .if1 .left)
+    (ran-told (a .result) (a .last .1 .0) (a .last .1 .1 .0) (a .last .1 .1 .1 .0)) (a .ensures))
 
 pub step-spec : {M : Type 1} → statement M
 step-spec =
@@ -68,14 +64,13 @@ step-spec =
     (tie.spec
     judge-requires
     enum-known-first
-    answered-requires
+    refuse-requires
     returns
     enum-told
-    answered-requires-2
+    refuse-requires-2
     returns-2
     advance-requires
     step-answer-requires
-    answered-requires-3
     same-length
     same-length-2
     same-length-3
