@@ -12,6 +12,7 @@ use borrow.Author.Tests.{ltb-true, not-false}
 use Rattle.report.specs.AnnexA.{Mem}
 use Rattle.report.specs.Section3.{State, Triple}
 use Rattle.report.specs.Parts.{Where, fitted, Part, stopped, halts, compares, writes, skips, computes, part, word, after-by, placed, writes-by, reads, written, InRange}
+use Rattle.report.proofs.Stores.{either-false, fitted-low, placed-stores}
 use Rattle.report.proofs.Order.{next-by-parts}
 use Rattle.report.proofs.RangeKept.{next-in-range, put-main, put-ports}
 use Rattle.machine.specs.Held.{where-of}
@@ -23,24 +24,6 @@ use Rattle.demands.specs.Histories.{Valid, Typed}
 
 -- ---- the stores after an operation
 
-placed-stores : (df ff : ℕ) (r : Mem) (p a x y : ℕ) (t : Triple) → placed df ff r p a x y t .0 ≡ r
-unfolding placed
-placed-stores df ff r p a x y (v, b, s) = go (eqb df 0) (eqb df 1) (eqb df 2) (eqb ff 1)
-  where
-    n : ℕ
-    n = (p + 1) % 2 ^ 20
-
-    stores : State → Mem
-    stores q = q .0
-
-    go : (t₀ t₁ t₂ t₃ : Bool)
-        → stores (cond t₀ (r, n, v, x, y, b, s) (cond t₁ (r, n, a, v, y, b, s) (cond t₂ (r, n, a, x, v, b, s) (cond t₃ (r, v % 2 ^ 20, a, x, p + 1, b, s) (r, v % 2 ^ 20, a, x, y, b, s))))) ≡ r
-    go true t₁ t₂ t₃ = refl
-    go false true t₂ t₃ = refl
-    go false false true t₃ = refl
-    go false false false true = refl
-    go false false false false = refl
-
 part-touched : (k : Part) (w : ℕ) (s : State) → lacks (s .0) (writes-by k w (s .3) (s .4)) ≡ false → Touched (s .0) (after-by k w s .0) (writes-by k w (s .3) (s .4))
 unfolding after-by writes-by
 part-touched stopped w (r, p, a, x, y, b, t) h = kept none refl
@@ -50,10 +33,6 @@ part-touched writes w (r, p, a, x, y, b, t) h = put _ _ (not-false _ h) (omega a
 part-touched skips w (r, p, a, x, y, b, t) h = kept none refl
 part-touched computes w (r, p, a, x, y, b, t) h = kept none (placed-stores _ _ r p a x y _)
 
-either-false : (a b : Bool) → (a || b) ≡ false → (a ≡ false) × (b ≡ false)
-either-false true b h = absurd (true≢false h)
-either-false false b h = (refl, h)
-
 -- What a step fetches, reads and writes is not lacking.
 pub nothing-lacks : (s : State) → step-unfitted s ≡ false → (lacks (s .0) (some (false, s .1)) ≡ false) × (lacks (s .0) (reads s) ≡ false) × (lacks (s .0) (written s) ≡ false)
 unfolding step-unfitted
@@ -61,11 +40,6 @@ nothing-lacks s h =
     let two = either-false (lacks (s .0) (some (false, s .1))) (lacks (s .0) (reads s) || lacks (s .0) (written s)) h in
     let three = either-false (lacks (s .0) (reads s)) (lacks (s .0) (written s)) (two .1) in
     (two .0, three .0, three .1)
-
-fitted-low : (r : Mem) (q : Where) → length (r .main) ≤ 2 ^ 20 → length (r .ports) ≤ 2 ^ 20 → fitted r q ≡ true → q .1 < 2 ^ 20
-unfolding fitted
-fitted-low r (true, n) hm hp e = omega (arith, ltb-true n (length (r .ports)) e)
-fitted-low r (false, n) hm hp e = omega (arith, ltb-true n (length (r .main)) e)
 
 -- An operation keeps the stores, or puts a value at its place.
 pub touched : (e : Operation) (s : State) → Valid s → unfitted (operate e) s ≡ false → Touched (s .0) (next e s .0) (writes-at e s)

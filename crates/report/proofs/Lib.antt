@@ -7,3 +7,4 @@ pub mod Readings
 pub mod Order
 pub mod StarredCases
 pub mod RangeKept
+pub mod Stores

@@ -33,7 +33,8 @@ use Rattle.viper.specs.declared.Answer.the-variants.{Done, Refused}
 use Rattle.viper.specs.declared.RunAnswer.the-variants as run-answer
 use Rattle.viper.specs.Refusals.{when, or-else, lowest}
 use Rattle.viper.specs.Phases.{step-unfitted, lacks}
-use Rattle.viper.proofs.Stores.{fitted-low, view-one}
+use Rattle.report.proofs.Stores.{fitted-low}
+use Rattle.viper.proofs.Stores.{view-one}
 use Rattle.viper.specs.Operations.{Bench, Operation, step, reset, force, set-word, operate, run, back, Call, lends-stores, next, applies, answer, record-for, done, broken, newest-of, Outcome, outcome}
 use Rattle.viper.specs.TakingBack.{put-back, back-outcome}
 use Rattle.viper.specs.Runs.{Ran, ending-of, over-and-over, RunOutcome, run-outcome}
@@ -244,7 +245,7 @@ module _ (m : Machine) (main ports trail : List ℕ) (used : ℕ) (q : Place) (v
           l = passed (m .p) (length main) (length ports) (length trail) used a k d
 
           low-of : (w : Where) → fitted (ram main ports) w ≡ true → w .1 < 2 ^ 20
-          low-of w e = fitted-low main ports w (l .main-le) (l .ports-le) e
+          low-of w e = fitted-low (ram main ports) w (l .main-le) (l .ports-le) e
 
       set-finished : finished m (record { machine = m; written = write.Word q v }) (ram main ports) trail used
           ≡ cond (ltb (length trail - used) (length rec)) (left added·is.Full (ram main ports) trail)
@@ -333,7 +334,7 @@ module _ (m : Machine) (main ports trail : List ℕ) (used : ℕ) (a : Answer) (
         let l = passed (m .p) (length main) (length ports) (length trail) used a k d in
         let s = newest-fitted-stands (length main) (length ports) {trail = trail} {used = used} {o = o} {n = n} (omega arith) (l .used-le) (sym h ∙ z) in
         let f : fitted (ram main ports) (where-of-number (o .place)) ≡ true = sym (fits-fitted (ram main ports) (where-of-number (o .place))) ∙ s .1 mark in
-        record { has = f; low = fitted-low main ports (where-of-number (o .place)) (l .main-le) (l .ports-le) f }
+        record { has = f; low = fitted-low (ram main ports) (where-of-number (o .place)) (l .main-le) (l .ports-le) f }
 
 -- the word of a record put back, in main or in ports
 module _ (r : Mem) (o : OldValues) (mark : marked 8 (o .marks) ≡ true) where

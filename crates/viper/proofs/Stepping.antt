@@ -14,6 +14,7 @@ use borrow.Author.Tests.{lt-ltb, le-ltb, lt-leb, ltb-false, ltb-true}
 use Rattle.report.specs.AnnexA.{Mem}
 use Rattle.report.specs.Section3.{State, Triple, NEXT}
 use Rattle.report.specs.Parts.{Where, word-at, with-word, fitted, Part, stopped, halts, compares, writes, skips, computes, part, part-by, word, of, output, after-by, after, placed, place-by, writes-by, written, reads, InRange}
+use Rattle.report.proofs.Stores.{either-false, placed-stores}
 use Rattle.report.proofs.Order.{next-by-parts}
 use Rattle.report.proofs.RangeKept.{next-in-range}
 use Rattle.machine.specs.Held.{ram, state, machine-of, place-of, where-of}
@@ -52,24 +53,6 @@ changing-is old new (some q) = rw (where-place q)
 
 -- ---- what NEXT leaves in the stores: at most one word written, at the place that `written` gives
 
-placed-ram : (df ff : ℕ) (r : Mem) (p a x y : ℕ) (t : Triple) → placed df ff r p a x y t .0 ≡ r
-unfolding placed
-placed-ram df ff r p a x y (v, b, s) = go (eqb df 0) (eqb df 1) (eqb df 2) (eqb ff 1)
-  where
-    n : ℕ
-    n = (p + 1) % 2 ^ 20
-
-    stores : State → Mem
-    stores q = q .0
-
-    go : (t₀ t₁ t₂ t₃ : Bool)
-        → stores (cond t₀ (r, n, v, x, y, b, s) (cond t₁ (r, n, a, v, y, b, s) (cond t₂ (r, n, a, x, v, b, s) (cond t₃ (r, v % 2 ^ 20, a, x, p + 1, b, s) (r, v % 2 ^ 20, a, x, y, b, s))))) ≡ r
-    go true t₁ t₂ t₃ = refl
-    go false true t₂ t₃ = refl
-    go false false true t₃ = refl
-    go false false false true = refl
-    go false false false false = refl
-
 -- a word written at a fitted place, read and written again
 pub put-again : (r : Mem) (q : Where) (v : ℕ) → fitted r q ≡ true → rewritten r (writing (some q) (with-word r q v)) ≡ with-word r q v
 put-again r (io, n) v h = rw (where-place (io, n), word-back r io n v h)
@@ -87,7 +70,7 @@ after-ram halts w (r, p, a, x, y, b, t) h = refl
 after-ram compares w (r, p, a, x, y, b, t) h = refl
 after-ram writes w (r, p, a, x, y, b, t) h = put-again r _ _ (not-false _ h)
 after-ram skips w (r, p, a, x, y, b, t) h = refl
-after-ram computes w (r, p, a, x, y, b, t) h = sym (placed-ram _ _ r p a x y _)
+after-ram computes w (r, p, a, x, y, b, t) h = sym (placed-stores _ _ r p a x y _)
 
 low-place : (w x y : ℕ) (q : Where) → place-by (of output w) w x y ≡ q → q .1 < 2 ^ 20
 low-place w x y q e = rw (← e) (omega arith)
@@ -117,10 +100,6 @@ finished-between old new q trail used h = rw (changing-is (old .0) (new .0) q) (
     go false = ap (λ (r : Mem). left (added·is.Used (used + length (record-of old new q))) r (put trail used (record-of old new q))) h
 
 -- ---- the refusals of a step whose first three do not apply
-
-either-false : (a b : Bool) → (a || b) ≡ false → (a ≡ false) × (b ≡ false)
-either-false true b h = absurd (true≢false h)
-either-false false b h = (refl, h)
 
 no-store-too-long : (main ports : ℕ) → main ≤ 2 ^ 20 → ports ≤ 2 ^ 20 → (ltb (2 ^ 20) main || ltb (2 ^ 20) ports) ≡ false
 no-store-too-long main ports h k = rw (le-ltb (2 ^ 20) main h, le-ltb (2 ^ 20) ports k)

@@ -55,11 +55,6 @@ module _ (main ports : List ℕ) (q : Place) where
 
 -- ---- fitted places
 
-pub fitted-low : (main ports : List ℕ) (w : Where) → length main ≤ 2 ^ 20 → length ports ≤ 2 ^ 20 → fitted (ram main ports) w ≡ true → w .1 < 2 ^ 20
-unfolding fitted
-fitted-low main ports (true, n) hm hp e = omega (arith, ltb-true n (length ports) e)
-fitted-low main ports (false, n) hm hp e = omega (arith, ltb-true n (length main) e)
-
 pub one-fits : (a words : ℕ) → leb (a + 1) words ≡ ltb a words
 one-fits a words = ap (λ (n : ℕ). leb n words) (omega arith)
 

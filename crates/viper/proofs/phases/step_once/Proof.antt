@@ -10,7 +10,8 @@ use Rattle.machine.specs.Held.{ram, state, where-of}
 use Rattle.instruction.specs.PartOf.{part-of}
 use Rattle.viper.specs.Finishing.{Fitted}
 use Rattle.viper.proofs.Completing.{fetch-lacking, halts-once, skips-once, compares-once, compares-lacking, writes-once, writes-lacking, computes-once, computes-lacking}
-use Rattle.viper.proofs.Stores.{view-one, fitted-low}
+use Rattle.report.proofs.Stores.{fitted-low}
+use Rattle.viper.proofs.Stores.{view-one}
 use borrow.Author.Needs.{needs}
 use Rattle.viper.proofs.phases.step_once.Statement.{statement}
 use Rattle.viper.proofs.phases.step_once.Tie as tie
@@ -122,7 +123,7 @@ finish-word-requires c κs =
     let main = now (s .args .main) in
     let ports = now (s .args .ports) in
     let has = sym (view-one main ports q) ∙ (sym (c .before .before .before .before .is-fitted .ensures) ∙ yes _ (c .before .before .before .if1 .left)) in
-    ((s .pre .1 .0 .p-lt, s .pre .1 .0 .used-le), record { has = has; low = fitted-low main ports (where-of q) (s .pre .1 .0 .main-le) (s .pre .1 .0 .ports-le) has })
+    ((s .pre .1 .0 .p-lt, s .pre .1 .0 .used-le), record { has = has; low = fitted-low (ram main ports) (where-of q) (s .pre .1 .0 .main-le) (s .pre .1 .0 .ports-le) has })
 
 enum-told-6 : tie.Need-enum-told-6
 enum-told-6 c = search needs
