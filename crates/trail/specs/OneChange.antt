@@ -1,5 +1,5 @@
 -- The old values of an operation that changes at most one register or one word, as every step does.
--- That they are its `old-values` is in the crate viper, proofs/Finishing.antt.
+-- That they are its `old-values` is in the crate viper, proofs/Completing.antt.
 -- Assumes nothing.
 use Prim.Native.Nat.{ℕ}
 use mathlib.Core.Bool.{Bool, false, cond}

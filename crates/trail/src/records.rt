@@ -16,7 +16,7 @@ ghost use Rattle.machine.specs.Held.{where-of};
 ghost use Rattle.trail.specs.Numbers.{Put};
 ghost use Rattle.trail.specs.OneChange.{five, registers-kept, register-changed, Register};
 ghost use Rattle.trail.specs.declared.Word.the-variants.{Kept, Changed};
-ghost use Rattle.trail.specs.Records.{Addressed, Good, added, old-if-changed, old-values, place-number, record-bytes, word-changed, word-place, word-value};
+ghost use Rattle.trail.specs.Records.{Addressed, Good, added, old-values, place-number, record-bytes, word-changed, word-place, word-value};
 
 // A record, made whole before room is judged: the first `len` bytes of `bytes`.
 pub struct Record {
@@ -31,11 +31,11 @@ fn weight(set: bool, w: u32) -> u32
     if set { w } else { 0 }
 }
 
-// A value that changed; 0 for one that did not.
-fn old_if_changed(old: u32, new: u32) -> u32
-    ensures { λ r. ⌜ r ≡ old-if-changed old new ⌝ }
+// A value that is marked; 0 for one that is not.
+fn value_if(marked: bool, v: u32) -> u32
+    ensures { λ r. ⌜ r ≡ cond marked v 0 ⌝ }
 {
-    if old != new { old } else { 0 }
+    if marked { v } else { 0 }
 }
 
 // Whether a word changed, its place's number and its old value: 0 where none did.
@@ -91,9 +91,9 @@ pub fn old_values(old: Machine, new: Machine, word: Word) -> OldValues
             + weight(old.b, 16)
             + weight(old.stop, 32),
         p: old.p,
-        a: old_if_changed(old.a, new.a),
-        x: old_if_changed(old.x, new.x),
-        y: old_if_changed(old.y, new.y),
+        a: value_if(old.a != new.a, old.a),
+        x: value_if(old.x != new.x, old.x),
+        y: value_if(old.y != new.y, old.y),
         place: word_place(word),
         value: word_value(word),
     }
@@ -230,13 +230,6 @@ pub fn add_register(
         value: 0,
     };
     add(trail, used, o)
-}
-
-// A value that is marked; 0 for one that is not.
-fn value_if(marked: bool, v: u32) -> u32
-    ensures { λ r. ⌜ r ≡ cond marked v 0 ⌝ }
-{
-    if marked { v } else { 0 }
 }
 
 // Adds the record of an operation that changed one word and no register.

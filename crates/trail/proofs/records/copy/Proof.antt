@@ -1,7 +1,6 @@
 -- `copy` meets its contract: the loop pastes the record into the trail, one byte more each turn.
 -- Assumes nothing.
 use Prim.Native.Nat.{_-_}
-use mathlib.Core.Path.{refl}
 use native.Mathlib.Omega.{arith}
 use denote.Ref.{now}
 use Rattle.trail.proofs.Adding.{Copying, first-bytes, starts, goes-on, ends, full}

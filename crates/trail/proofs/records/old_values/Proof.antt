@@ -41,17 +41,17 @@ weight-requires-6 c κs = search needs
 add-t18 : tie.Need-add-t18
 add-t18 c = search needs
 
-old-if-changed-requires : tie.Need-old-if-changed-requires
-old-if-changed-requires c κs = search needs
+value-if-requires : tie.Need-value-if-requires
+value-if-requires c κs = search needs
 
-old-if-changed-requires-2 : tie.Need-old-if-changed-requires-2
-old-if-changed-requires-2 c κs = search needs
+value-if-requires-2 : tie.Need-value-if-requires-2
+value-if-requires-2 c κs = search needs
 
-old-if-changed-requires-3 : tie.Need-old-if-changed-requires-3
-old-if-changed-requires-3 c κs = search needs
+value-if-requires-3 : tie.Need-value-if-requires-3
+value-if-requires-3 c κs = search needs
 
 word-place-requires : tie.Need-word-place-requires
-word-place-requires c κs = search needs
+word-place-requires c κs = c .before .before .before .before .before .before .before .before .before .before .before .before .before .before .before .before .before .before .before .before .before .before .pre
 
 word-value-requires : tie.Need-word-value-requires
 word-value-requires c κs = search needs
@@ -59,7 +59,7 @@ word-value-requires c κs = search needs
 returns : tie.Need-returns
 unfolding old-values
 returns c =
-    let at-marks = c .before .before .before .before .before in
+    let at-marks = c .before .before .before .before .before .before .before .before .before .before .before in
     rw (
       at-marks .before .before .before .before .before .before .before .before .before .before .weight .ensures .0,
       at-marks .before .before .before .before .before .before .before .weight2 .ensures .0,
@@ -68,9 +68,9 @@ returns c =
       at-marks .before .before .before .word-changed .ensures,
       at-marks .before .weight5 .ensures .0,
       at-marks .weight6 .ensures .0,
-      c .before .before .before .before .old-if-changed .ensures,
-      c .before .before .before .old-if-changed2 .ensures,
-      c .before .before .old-if-changed3 .ensures,
+      c .before .before .before .before .before .before .before .before .value-if .ensures,
+      c .before .before .before .before .before .value-if2 .ensures,
+      c .before .before .value-if3 .ensures,
       c .before .word-place .ensures,
       c .word-value .ensures,
     )
@@ -91,9 +91,9 @@ old-values-spec =
     add-t16
     weight-requires-6
     add-t18
-    old-if-changed-requires
-    old-if-changed-requires-2
-    old-if-changed-requires-3
+    value-if-requires
+    value-if-requires-2
+    value-if-requires-3
     word-place-requires
     word-value-requires
     returns)
