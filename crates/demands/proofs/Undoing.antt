@@ -2,16 +2,15 @@
 -- and its record, put back into the state after it, gives the state before it.
 -- Assumes nothing.
 use mathlib.Core.Path.{_≡_, refl}
-use mathlib.Core.Bool.{Bool, true, false, cond, _||_, true≢false}
+use mathlib.Core.Bool.{false, _||_}
 use mathlib.Core.Option.{Option, none, some}
-use Prim.Native.Nat.{ℕ, _+_, _%_, _^_, _<_, _≤_}
+use Prim.Native.Nat.{ℕ, _<_}
 use native.Mathlib.Omega.{arith}
-use lib.Dec.{eqb}
 use lib.ListN.{length, length-append}
-use borrow.Author.Tests.{ltb-true, not-false}
+use borrow.Author.Tests.{not-false}
 use Rattle.report.specs.AnnexA.{Mem}
-use Rattle.report.specs.Section3.{State, Triple}
-use Rattle.report.specs.Parts.{Where, fitted, Part, stopped, halts, compares, writes, skips, computes, part, word, after-by, placed, writes-by, reads, written, InRange}
+use Rattle.report.specs.Section3.{State}
+use Rattle.report.specs.Parts.{Where, fitted, Part, stopped, halts, compares, writes, skips, computes, part, word, after-by, writes-by, reads, written, InRange}
 use Rattle.report.proofs.Stores.{either-false, fitted-low, placed-stores}
 use Rattle.report.proofs.Order.{next-by-parts}
 use Rattle.report.proofs.RangeKept.{next-in-range, put-main, put-ports}

@@ -1,12 +1,12 @@
 -- What the code decides by a word's class is the part of document 01's order: one test, computed over the 1,024 classes and the flags.
 -- Assumes nothing.
 use mathlib.Core.Path.{_≡_, refl, ap, sym, _∙_}
-use mathlib.Core.Bool.{Bool, true, false, not, cond, _&&_, _||_}
+use mathlib.Core.Bool.{Bool, false, not, cond, _&&_, _||_}
 use Prim.Native.Nat.{ℕ, _/_, _%_, _^_, _<_}
 use native.Mathlib.Omega.{arith}
 use lib.Dec.{T, eqb, leb, eqb→eq}
 use Rattle.report.specs.Parts.{Part, stopped, halts, compares, writes, skips, computes, part-by, msf, dsf, csf, fsf, of, top, bad, comparison, write, shift, skip, always-halts}
-use Rattle.report.proofs.Finite.{same, all, below, flags, flag}
+use Rattle.report.proofs.Finite.{below, flags, flag}
 use Rattle.instruction.specs.Classes.{class-by, class-of-word}
 
 -- the code's order: by the class k, whether the function is a shift's, whether P is at the top, whether the address is bad, and B

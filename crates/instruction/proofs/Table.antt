@@ -1,13 +1,12 @@
 -- Each of the 1,024 entries is the class of its number: one test that antt computes over the whole table, and the law that turns it into the rule.
 -- Assumes nothing.
 use mathlib.Core.Path.{_≡_, refl, subst, sym, _∙_}
-use mathlib.Core.Bool.{Bool, true, false, cond, _&&_}
+use mathlib.Core.Bool.{Bool, true, cond, _&&_}
 use mathlib.Core.List.{List, [], _∷_}
 use Prim.Native.Nat.{ℕ, zero, suc, _+_, _<_}
 use native.Mathlib.Nat.{add-zero, zero-add, add-suc, suc-add, le-of-suc-le-suc, not-suc-le-zero}
 use lib.Dec.{T, eqb, eqb→eq}
 use lib.ListN.{length, getD}
-use Rattle.report.specs.Parts.{always-halts}
 use Rattle.report.proofs.Finite.{both-left, both-right}
 use Rattle.instruction.specs.Classes.{class-by, class-of, Classified}
 

@@ -1,7 +1,7 @@
 -- Document 01: the ten bits 29-20 decide a word's class, by the tests of "The instruction, from the report".
 -- 0 comparison, 1 always halts, 2 main write, 3 port write, 4 5 6 destination A X Y, 7 destination P always, 8 if B, 9 if not B.
 -- Assumes nothing.
-use Prim.Native.Nat.{ℕ, _/_, _%_, _^_, _<_}
+use Prim.Native.Nat.{ℕ, _/_, _%_, _<_}
 use mathlib.Core.Path.{_≡_}
 use mathlib.Core.Bool.{cond}
 use mathlib.Core.List.{List}

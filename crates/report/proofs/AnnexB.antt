@@ -2,16 +2,16 @@
 -- difference of the extended words by the stretch of 2^31 numbers in which it lies, which says bits 31 and 32.
 -- Assumes nothing.
 use mathlib.Core.Path.{_≡_, refl, sym, ap, _∙_}
-use mathlib.Core.Bool.{Bool, true, false, not, cond, or-false, _||_}
+use mathlib.Core.Bool.{Bool, true, false, or-false, _||_}
 use Prim.Native.Nat.{ℕ, zero, suc, _+_, _-_, _*_, _/_, _%_, _^_, _<_, _≤_}
 use native.Mathlib.Omega.{arith}
 use lib.Dec.{eqb, leb, ltb}
-use borrow.Author.Tests.{ltb-true, ltb-false, leb-true, leb-false, lt-ltb, le-ltb, le-leb, lt-leb, eq-eqb, ne-eqb}
+use borrow.Author.Tests.{lt-ltb, le-ltb, le-leb, lt-leb, eq-eqb, ne-eqb}
 use lib.IntN.{ℤ, pos, negsuc, subℕ, _+ℤ_, _-ℤ_}
 use lib.Signed.{ltZ}
-use Rattle.report.specs.AnnexA.{BV, _XOR_}
+use Rattle.report.specs.AnnexA.{_XOR_}
 use Rattle.report.specs.Section3.{ADD32, SUB32}
-use Rattle.report.specs.Parts.{signed, overflows, less}
+use Rattle.report.specs.Parts.{signed, overflows}
 use Rattle.report.proofs.Bits.{by-le, bit, bit-of, el-31, el-31-34, el-32-34}
 use Rattle.report.proofs.Words.{extended, negated, trim34-is, signext-is, signext-lt, neg-is}
 

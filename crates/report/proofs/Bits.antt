@@ -1,17 +1,17 @@
 -- From lists of bits to arithmetic: what V, EL, SEG, CONS and the bitwise functions are of BITS n w, for every width n.
 -- Assumes nothing.
 use mathlib.Core.Path.{_≡_, refl, sym, ap, ap₂, _∙_}
-use mathlib.Core.Bool.{Bool, true, false, not, cond, _&&_, _||_}
-use mathlib.Core.List.{List, [], _∷_, map}
-use Prim.Native.Nat.{ℕ, zero, suc, min, max, _+_, _-_, _*_, _/_, _%_, _^_, _<_, _≤_}
-use native.Mathlib.Nat.{add-comm, div-div-eq-div-mul, mod-lt}
+use mathlib.Core.Bool.{Bool, true, false, _&&_, _||_}
+use mathlib.Core.List.{map}
+use Prim.Native.Nat.{ℕ, zero, suc, min, _+_, _-_, _*_, _/_, _%_, _^_, _<_, _≤_}
+use native.Mathlib.Nat.{div-div-eq-div-mul, mod-lt}
 use native.Mathlib.Omega.{arith}
 use lib.Dec.{eqb, leb}
 use lib.ListN.{length}
 use lib.Pow.{pow-pos, pow-add, mod-pow-add}
 use lib.Bits.{bitAnd, bitOr, and-block, or-block}
 use borrow.Author.Tests.{leb-true, leb-false, le-leb, lt-leb, eq-eqb, ne-eqb}
-use Rattle.report.specs.AnnexA.{EL, SEG, «V», BV, BITS, MAP2, NOT, TL, CONS}
+use Rattle.report.specs.AnnexA.{EL, SEG, «V», BV, BITS, MAP2, NOT, CONS}
 
 -- two ways, by a test
 way : {P : Type 0} (a b : ℕ) (t : Bool) → leb a b ≡ t → (a ≤ b → P) → (b < a → P) → P

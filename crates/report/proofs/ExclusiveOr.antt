@@ -1,12 +1,10 @@
 -- The report's exclusive or, (r OR m) AND NOT (r AND m), is the bitwise exclusive or of numbers: bit by bit, for every width.
 -- Assumes nothing.
 use mathlib.Core.Path.{_≡_, refl, sym, ap, _∙_}
-use mathlib.Core.Bool.{Bool, true, false, _&&_, _||_, not}
+use mathlib.Core.Bool.{not}
 use Prim.Native.Nat.{ℕ, zero, suc, min, max, _*_, _+_, _-_, _/_, _%_, _^_, _<_, _≤_}
 use native.Mathlib.Omega.{arith}
-use lib.Dec.{eqb}
-use lib.Bits.{bitAnd, bitOr, bitXor, and-shr, or-shr, xor-shr, and-mod, or-mod, xor-mod, differ, and-step, or-step, xor-step, and-lt, and-block}
-use borrow.Author.Tests.{eq-eqb, ne-eqb}
+use lib.Bits.{bitAnd, bitOr, bitXor, differ, and-step, or-step, xor-step, and-lt, and-block}
 use Rattle.report.proofs.Bits.{by-le}
 
 -- a bit is 0 or 1

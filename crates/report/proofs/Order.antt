@@ -1,16 +1,16 @@
 -- The report's NEXT is document 01's step in parts, on words in range: `next-by-parts`, at the end.
 -- NEXT is unfolded once and its functions read in arithmetic; its tests on the fields are document 01's at each of the 1,024 classes; then each part's state is compared.
 -- Assumes nothing.
-use mathlib.Core.Path.{_≡_, refl, sym, ap, ap₂, _∙_}
-use mathlib.Core.Bool.{Bool, true, false, not, cond, _&&_, _||_, Bool·beq, or-true, or-false, and-true, and-false, true≢false}
-use Prim.Native.Nat.{ℕ, _+_, _-_, _*_, _/_, _%_, _^_, _<_, _≤_}
+use mathlib.Core.Path.{_≡_, refl, sym, ap, _∙_}
+use mathlib.Core.Bool.{Bool, true, false, not, cond, _&&_, _||_, or-false, and-true, true≢false}
+use Prim.Native.Nat.{ℕ, _+_, _-_, _/_, _%_, _^_, _<_}
 use native.Mathlib.Omega.{arith}
-use lib.Dec.{T, eqb, leb, ltb}
+use lib.Dec.{eqb, leb}
 use lib.ListN.{getD}
 use borrow.Author.Tests.{eq-eqb, ne-eqb, le-leb, lt-leb}
-use Rattle.report.specs.AnnexA.{EL, SEG, «V», BITS, Mem}
-use Rattle.report.specs.Section3.{State, Triple, NEXT, WRITE, NILM, NOOP, SPAREFUNC, ILLEGALCALL, ILLEGALPDEST, ILLEGALWRITE, OUTPUT, INPUT}
-use Rattle.report.specs.Parts.{rsf, msf, dsf, csf, fsf, addr, source, address, bad, top, comparison, write, output, input, shift, skip, always-halts, of, compared, computed, word-at, with-word, place-by, operand, placed, to-p, Part, stopped, halts, compares, writes, skips, computes, part-by, after-by, after, InRange}
+use Rattle.report.specs.AnnexA.{SEG, «V», BITS, Mem}
+use Rattle.report.specs.Section3.{State, NEXT, WRITE, NILM, NOOP, SPAREFUNC, ILLEGALCALL, ILLEGALPDEST, ILLEGALWRITE, OUTPUT, INPUT}
+use Rattle.report.specs.Parts.{rsf, msf, dsf, csf, fsf, addr, source, address, bad, top, comparison, write, output, input, shift, skip, always-halts, of, compared, computed, word-at, with-word, place-by, operand, placed, to-p, Part, halts, compares, writes, skips, computes, part-by, after-by, after, InRange}
 use Rattle.report.proofs.Bits.{by-le, v-seg}
 use Rattle.report.proofs.Words.{trim32-is}
 use Rattle.report.proofs.Readings.{incp-is, invalid-is, offset-is, instfetch-is, memread-is, memwrite-is, reg-is, compare-is, alu-is}

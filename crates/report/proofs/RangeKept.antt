@@ -1,17 +1,15 @@
 -- NEXT keeps P below 2^20 and every register and word below 2^32: each is one that was there, or a result taken modulo its width.
 -- Assumes nothing.
-use mathlib.Core.Path.{_≡_, refl, sym}
-use mathlib.Core.Bool.{Bool, true, false, not, cond, _&&_, _||_}
+use mathlib.Core.Bool.{Bool, true, false, cond}
 use mathlib.Core.List.{List, [], _∷_}
-use Prim.Native.Nat.{ℕ, zero, suc, _+_, _-_, _*_, _/_, _%_, _^_, _<_, _≤_}
+use Prim.Native.Nat.{ℕ, zero, suc, _+_, _-_, _%_, _^_, _<_}
 use native.Mathlib.Omega.{arith}
-use lib.Dec.{eqb, leb, ltb}
-use lib.ListN.{length, getD, set}
-use lib.Bits.{bitAnd, bitOr, bitXor, and-lt, or-lt, xor-lt}
-use lib.IntN.{_+ℤ_, _-ℤ_}
-use Rattle.report.specs.AnnexA.{Mem, BV}
+use lib.Dec.{eqb}
+use lib.ListN.{getD, set}
+use lib.Bits.{and-lt, xor-lt}
+use Rattle.report.specs.AnnexA.{Mem}
 use Rattle.report.specs.Section3.{State, Triple, NEXT}
-use Rattle.report.specs.Parts.{Where, word-at, with-word, rsf, msf, dsf, fsf, addr, source, top-bit, low-bit, shifted, computed, compared, overflows, signed, bad, to-p, of, shift, input, output, Part, stopped, halts, compares, writes, skips, computes, part, word, after-by, after, placed, place-by, operand, InRange}
+use Rattle.report.specs.Parts.{Where, with-word, rsf, msf, dsf, fsf, source, top-bit, shifted, computed, to-p, of, shift, input, output, Part, stopped, halts, compares, writes, skips, computes, part, word, after-by, after, placed, place-by, operand, InRange}
 use Rattle.report.proofs.Bits.{bit-small}
 use Rattle.report.proofs.Order.{next-by-parts, source-lt, operand-lt}
 

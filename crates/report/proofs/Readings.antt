@@ -1,24 +1,23 @@
 -- Pages 12 to 16: COMPARE, INCP32, INVALID, OFFSET, REG, the reads and writes of memory and the ALU, each in document 01's arithmetic.
 -- Each is the function unfolded, with Annex B and the dictionary of bits read at its words.
 -- Assumes nothing.
-use mathlib.Core.Path.{_≡_, refl, sym, ap, ap₂, _∙_}
-use mathlib.Core.Bool.{Bool, true, false, not, cond, _&&_, _||_, Bool·beq}
-use Prim.Native.Nat.{ℕ, _+_, _-_, _*_, _/_, _%_, _^_, _<_, _≤_}
+use mathlib.Core.Path.{_≡_, refl, sym, ap, _∙_}
+use mathlib.Core.Bool.{Bool, true, false, not, cond, _||_, Bool·beq}
+use Prim.Native.Nat.{ℕ, _+_, _-_, _*_, _/_, _%_, _^_, _<_}
 use native.Mathlib.Nat.{mod-eq-of-lt}
 use native.Mathlib.Omega.{arith}
-use lib.Dec.{T, eqb, leb, ltb}
+use lib.Dec.{eqb, ltb}
 use lib.ListN.{getD}
-use lib.IntN.{_+ℤ_, _-ℤ_}
 use lib.Bits.{bitAnd, bitOr, bitXor, and-lt, or-lt}
 use borrow.Author.Tests.{eq-eqb, ne-eqb, le-leb, lt-leb}
 use Rattle.report.specs.AnnexA.{EL, «V», BV, BITS, CONS, NOT32, _AND32_, _OR32_, Mem, FETCH21, STORE21}
-use Rattle.report.specs.Section3.{Triple, PAD20TO32, INCP32, COMPARE, REG, OFFSET, INVALID, INSTFETCH, MEMREAD, MEMWRITE, ALU, SIGNEXT, NEG}
-use Rattle.report.specs.Parts.{signed, overflows, less, bad, msf, addr, address, source, word-at, with-word, place-by, operand, to-p, top-bit, low-bit, shifted, computed, compared, compared-by, holds}
-use Rattle.report.proofs.Bits.{by-le, bit-of, bit-small, v-cons, el-bits, el-0, el-31, el-32-34}
-use Rattle.report.proofs.Words.{extended, negated, trim32-is, pad-is, signext-is, signext-lt, neg-is, right-is, rightarith-is, left-is, not32-is, and32-is, or32-is}
+use Rattle.report.specs.Section3.{Triple, PAD20TO32, INCP32, COMPARE, REG, OFFSET, INVALID, INSTFETCH, MEMREAD, MEMWRITE, ALU}
+use Rattle.report.specs.Parts.{less, bad, msf, addr, address, source, word-at, with-word, place-by, operand, to-p, shifted, computed, compared, compared-by}
+use Rattle.report.proofs.Bits.{by-le, bit-small, v-cons, el-bits, el-0, el-31, el-32-34}
+use Rattle.report.proofs.Words.{extended, trim32-is, pad-is, signext-is, signext-lt, neg-is, right-is, rightarith-is, left-is, not32-is, and32-is, or32-is}
 use Rattle.report.proofs.ExclusiveOr.{xor-by}
 use Rattle.report.proofs.AnnexB.{add-is, sub-is, sub-borrow, sub-less}
-use Rattle.report.proofs.Finite.{same, all, below, flags, flag}
+use Rattle.report.proofs.Finite.{same, below, flags, flag}
 
 -- ---- COMPARE
 

@@ -1,14 +1,13 @@
 -- Pages 10 and 12: the functions that trim, pad, extend, shift and invert words, each in arithmetic. Each is the dictionary of Bits read once.
 -- Assumes nothing.
-use mathlib.Core.Path.{_≡_, refl, sym, ap, ap₂, _∙_}
+use mathlib.Core.Path.{_≡_, ap, ap₂, _∙_}
 use mathlib.Core.Bool.{Bool, true, false, cond}
-use mathlib.Core.List.{List, map}
-use Prim.Native.Nat.{ℕ, _+_, _-_, _*_, _/_, _%_, _^_, _<_, _≤_}
+use Prim.Native.Nat.{ℕ, _+_, _-_, _*_, _/_, _%_, _^_, _<_}
 use native.Mathlib.Nat.{mod-eq-of-lt}
 use native.Mathlib.Omega.{arith}
 use lib.Dec.{eqb}
 use lib.Bits.{bitAnd, bitOr, and-lt, or-lt}
-use Rattle.report.specs.AnnexA.{EL, SEG, «V», BV, BITS, TL, CONS, NOT33, NOT32, _AND32_, _OR32_}
+use Rattle.report.specs.AnnexA.{BV, BITS, NOT33, NOT32, _AND32_, _OR32_}
 use Rattle.report.specs.Section3.{TRIM32TO20, TRIM34TO32, PAD20TO32, SIGNEXT, RIGHT, LEFT, RIGHTARITH, NEG}
 use Rattle.report.proofs.Bits.{bit-of, bit-small, v-bits, v-cons, el-31, seg-bits, v-seg, v-not, v-and, v-or}
 

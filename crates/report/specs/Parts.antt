@@ -1,7 +1,7 @@
 -- Document 01, "The instruction, from the report", in plain arithmetic: the fields of a word, R, the address, M, and the step in its six parts.
 -- That the report's NEXT is this step, on words in range, is `next-by-parts` in proofs/Order.antt.
 -- Assumes nothing.
-use Prim.Native.Nat.{ℕ, _+_, _-_, _*_, _/_, _%_, _^_, _<_, _≤_}
+use Prim.Native.Nat.{ℕ, _+_, _-_, _*_, _/_, _%_, _^_, _<_}
 use mathlib.Core.Bool.{Bool, true, false, not, cond, _||_, _&&_}
 use mathlib.Core.Option.{Option, none, some}
 use lib.Dec.{eqb, leb, ltb}

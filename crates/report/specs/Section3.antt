@@ -3,7 +3,6 @@
 -- Assumes nothing.
 use Prim.Native.Nat.{ℕ, _+_}
 use mathlib.Core.Bool.{Bool}
-use mathlib.Core.List.{List}
 use Rattle.report.specs.AnnexA.{T, F, _==_, NOT, _OR_, _AND_, _XOR_, _=>_∣_, CONS, TL, EL, SEG, «V», WORD1, WORD2, WORD3, WORD4, WORD20, WORD21, WORD32, WORD33, WORD34, VAL1, VAL2, VAL3, VAL4, VAL20, VAL33, BITS20, BITS32, BITS34, NOT33, NOT32, _AND32_, _OR32_, Mem, FETCH21, STORE21}
 
 -- word32 # bool # bool: a result with carry and overflow, or with B and abort.

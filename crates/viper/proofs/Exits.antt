@@ -1,23 +1,20 @@
 -- The ways out of the calls: each answer, with the bench it leaves, is the one that the table of refusals and the operation give.
 -- Assumes nothing.
 use mathlib.Core.Path.{_≡_, refl, sym, ap, _∙_}
-use mathlib.Core.Bool.{Bool, true, false, not, cond, _&&_, _||_, true≢false}
+use mathlib.Core.Bool.{Bool, true, false, not, cond, _||_}
 use mathlib.Core.List.{List}
-use mathlib.Core.Option.{none, some}
+use mathlib.Core.Option.{some}
 use Prim.Native.Nat.{ℕ, _+_, _-_, _^_, _<_, _≤_}
 use native.Mathlib.Omega.{arith}
 use lib.Dec.{eqb, leb, ltb}
 use lib.ListN.{length}
-use borrow.Author.Tests.{leb-false, ltb-true, ltb-false, eq-eqb, ne-eqb, lt-leb, le-leb, le-ltb, lt-ltb}
+use borrow.Author.Tests.{leb-false, ltb-false, eq-eqb, ne-eqb, lt-leb, le-leb, le-ltb, lt-ltb}
 use Rattle.report.specs.AnnexA.{Mem}
-use Rattle.report.specs.Section3.{State}
-use Rattle.report.specs.Parts.{Where, fitted, with-word, word-at, InRange}
+use Rattle.report.specs.Parts.{Where, fitted, with-word, word-at}
 use Rattle.machine.specs.Held.{ram, state, machine-of, where-of, place-of}
 use Rattle.machine.specs.declared.Machine.{Machine}
 use Rattle.machine.specs.declared.Place.{Place}
 use Rattle.machine.specs.declared.Place.the-variants as place
-use Rattle.machine.specs.declared.Ending.{Ending}
-use Rattle.machine.specs.declared.Ending.the-variants as ending
 use Rattle.trail.specs.Records.{record-bytes, old-values, put, added, restored, marked, where-of-number}
 use Rattle.trail.proofs.NewestReadsBack.{newest-fitted-stands, fits-fitted}
 use Rattle.trail.specs.declared.Newest.{Newest}
@@ -31,16 +28,16 @@ use Rattle.viper.specs.declared.Refusal.the-variants.{PTooLarge, StoreTo
 use Rattle.viper.specs.declared.Answer.{Answer}
 use Rattle.viper.specs.declared.Answer.the-variants.{Done, Refused}
 use Rattle.viper.specs.declared.RunAnswer.the-variants as run-answer
-use Rattle.viper.specs.Refusals.{when, or-else, lowest}
-use Rattle.viper.specs.Phases.{step-unfitted, lacks}
+use Rattle.viper.specs.Refusals.{when, or-else}
+use Rattle.viper.specs.Phases.{step-unfitted}
 use Rattle.report.proofs.Stores.{fitted-low}
 use Rattle.viper.proofs.Stores.{view-one}
-use Rattle.viper.specs.Operations.{Bench, Operation, step, reset, force, set-word, operate, run, back, Call, lends-stores, next, applies, answer, record-for, done, broken, newest-of, Outcome, outcome}
-use Rattle.viper.specs.TakingBack.{put-back, back-outcome}
-use Rattle.viper.specs.Runs.{Ran, ending-of, over-and-over, RunOutcome, run-outcome}
+use Rattle.viper.specs.Operations.{Bench, Operation, step, reset, force, set-word, operate, run, back, Call, lends-stores, next, applies, answer, record-for, done, broken, newest-of, outcome}
+use Rattle.viper.specs.TakingBack.{back-outcome}
+use Rattle.viper.specs.Runs.{Ran, over-and-over, run-outcome}
 use Rattle.viper.specs.Phases as write
 use Rattle.viper.specs.Views.{view-fitted}
-use Rattle.viper.specs.Finishing.{Fitted, left, Finish, finished, rewritten}
+use Rattle.viper.specs.Finishing.{Fitted, left, Finish, finished}
 use Rattle.viper.specs.Noting.{noted, noted-by, stores-restored, Refits}
 use Rattle.viper.specs.Judging.{first-refusals, Lawful, answer-by}
 use Rattle.viper.specs.Told.{bench}

@@ -4,7 +4,6 @@ use mathlib.Core.Path.{_≡_, refl}
 use mathlib.Core.Bool.{Bool, true, false, cond}
 use Rattle.viper.specs.declared.Refusal.{Refusal}
 use Rattle.viper.specs.declared.Refusal.the-variants.{PTooLarge, StoreTooLong, CountTooLarge, Stopped, Unfitted, TrailFull, NothingInUse, BrokenRecord}
-use Rattle.viper.specs.declared.Answer.{Answer}
 use Rattle.viper.specs.declared.Answer.the-variants.{Done, Refused}
 use Rattle.viper.specs.Refusals.{when, or-else, lowest}
 

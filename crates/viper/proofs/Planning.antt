@@ -4,17 +4,17 @@
 use mathlib.Core.Path.{_≡_, refl, sym, ap, subst, _∙_}
 use mathlib.Core.Bool.{Bool, true, false, not, cond, _&&_, _||_, true≢false}
 use mathlib.Core.List.{List}
-use mathlib.Core.Option.{Option, none, some}
+use mathlib.Core.Option.{some}
 use Prim.Native.Nat.{ℕ, _+_, _%_, _^_, _<_, _≤_}
 use native.Mathlib.Omega.{arith}
 use native.Mathlib.Nat.{mod-eq-of-lt}
-use lib.Dec.{T, eqb, leb, ltb}
-use lib.ListN.{length, getD, set}
+use lib.Dec.{eqb, ltb}
+use lib.ListN.{length, getD}
 use lib.Seq.{getD-set-same}
-use borrow.Author.Tests.{eqb-true, eqb-false, ltb-true, ltb-false, lt-ltb, le-ltb, leb-false}
+use borrow.Author.Tests.{eqb-false, ltb-true, ltb-false, lt-ltb, le-ltb, leb-false}
 use Rattle.report.specs.AnnexA.{Mem}
-use Rattle.report.specs.Section3.{State, Triple, NEXT, REG, OFFSET, COMPARE, ALU}
-use Rattle.report.specs.Parts.{Where, word-at, with-word, fitted, rsf, msf, dsf, csf, fsf, addr, source, address, bad, top, comparison, write, output, input, shift, skip, always-halts, of, compared, computed, to-p, Part, stopped, halts, compares, writes, skips, computes, part-by, place-by, operand, placed, after-by, after, unless, reads-by, writes-by, reads, written, InRange}
+use Rattle.report.specs.Section3.{State, Triple, NEXT, COMPARE}
+use Rattle.report.specs.Parts.{word-at, with-word, fitted, rsf, msf, dsf, fsf, addr, source, address, bad, top, comparison, write, output, input, shift, skip, always-halts, of, compared, computed, to-p, Part, halts, compares, writes, skips, computes, part-by, place-by, operand, placed, after-by, unless, reads-by, writes-by, reads, written, InRange}
 use Rattle.report.proofs.Finite.{over}
 use Rattle.report.proofs.Order.{next-by-parts, source-lt, operand-lt}
 use Rattle.report.proofs.Readings.{offset-is, reg-is, compare-is, alu-is}
@@ -28,7 +28,7 @@ use Rattle.viper.specs.Phases as plan
 use Rattle.instruction.specs.PartOf.{part-of}
 use Rattle.viper.specs.declared.phases.Decoded.{Decoded}
 use Rattle.viper.specs.declared.phases.Fetched.the-variants as fetch
-use Rattle.viper.specs.Phases.{Written, Nothing, Word, Change, Plan, fetched, Decodes, next-p, source-of, read-from, constant-or, write-to, operands-of, with-flags, delivered, alone, executed, lacks, step-unfitted, writing, change-of, planned}
+use Rattle.viper.specs.Phases.{Written, Nothing, Word, Change, Plan, fetched, Decodes, next-p, source-of, constant-or, write-to, operands-of, with-flags, delivered, alone, executed, lacks, step-unfitted, writing, planned}
 
 -- ---- tests that exclude each other, over the 1,024 classes
 

@@ -1,19 +1,18 @@
 -- One step in the code's terms: the change that was planned, once finished, is the operation `step` done, and refusals 5 and 6 are those of the table.
 -- Then a run of steps: the definition at the start is the definition at the present bench, with the steps done counted along.
 -- Assumes nothing.
-use mathlib.Core.Path.{_≡_, refl, sym, ap, _∙_, subst}
-use mathlib.Core.Bool.{Bool, true, false, not, cond, _&&_, _||_, true≢false, false≢true}
-use mathlib.Core.List.{List, _++_}
+use mathlib.Core.Path.{_≡_, refl, sym, ap, _∙_}
+use mathlib.Core.Bool.{Bool, true, false, not, cond, _||_}
+use mathlib.Core.List.{List}
 use mathlib.Core.Option.{Option, none, some}
-use Prim.Native.Nat.{ℕ, zero, suc, _+_, _-_, _%_, _^_, _<_, _≤_}
+use Prim.Native.Nat.{ℕ, zero, suc, _+_, _-_, _^_, _<_, _≤_}
 use native.Mathlib.Omega.{arith}
-use native.Mathlib.Nat.{add-zero, add-suc, suc-add}
-use lib.Dec.{eqb, leb, ltb}
-use lib.ListN.{length, getD, set, length-set}
-use borrow.Author.Tests.{lt-ltb, le-ltb, lt-leb, ltb-false, ltb-true}
+use lib.Dec.{ltb}
+use lib.ListN.{length, length-set}
+use borrow.Author.Tests.{not-false, le-ltb, lt-leb, ltb-false}
 use Rattle.report.specs.AnnexA.{Mem}
-use Rattle.report.specs.Section3.{State, Triple, NEXT}
-use Rattle.report.specs.Parts.{Where, word-at, with-word, fitted, Part, stopped, halts, compares, writes, skips, computes, part, part-by, word, of, output, after-by, after, placed, place-by, writes-by, written, reads, InRange}
+use Rattle.report.specs.Section3.{State, NEXT}
+use Rattle.report.specs.Parts.{Where, with-word, fitted, Part, stopped, halts, compares, writes, skips, computes, part, word, of, output, after-by, after, place-by, writes-by, written, reads, InRange}
 use Rattle.report.proofs.Stores.{either-false, placed-stores}
 use Rattle.report.proofs.Order.{next-by-parts}
 use Rattle.report.proofs.RangeKept.{next-in-range}
@@ -21,7 +20,7 @@ use Rattle.machine.specs.Held.{ram, state, machine-of, place-of, where-of}
 use Rattle.machine.specs.declared.Machine.{Machine}
 use Rattle.machine.specs.declared.Ending.{Ending}
 use Rattle.machine.specs.declared.Ending.the-variants as ending
-use Rattle.trail.specs.Records.{record-of, record-bytes, old-values, old-values-of, changed-word, put, added}
+use Rattle.trail.specs.Records.{record-of, changed-word, put, added}
 use Rattle.trail.specs.declared.Added.{Added}
 use Rattle.trail.specs.declared.Added.the-variants as added·is
 use Rattle.trail.proofs.Adding.{put-length}
@@ -31,15 +30,15 @@ use Rattle.viper.specs.declared.Answer.the-variants.{Done, Refused}
 use Rattle.viper.specs.declared.Refusal.{Refusal}
 use Rattle.viper.specs.declared.Refusal.the-variants as refusal
 use Rattle.viper.specs.Phases.{Written, Change, Plan, lacks, step-unfitted, writing, change-of, planned}
-use Rattle.viper.specs.Finishing.{Fitted, Addressed, changing, rewritten, left, Finish, finishing, finished, End, ended, answered-by, by-plan, once}
-use Rattle.viper.specs.declared.finish.Stepped.{Stepped as AfterStep}
+use Rattle.viper.specs.Finishing.{Addressed, changing, rewritten, left, Finish, finishing, finished, End, ended, answered-by, by-plan, once}
 use Rattle.viper.specs.declared.finish.Stepped.the-variants as stepped·is
-use Rattle.viper.specs.Operations.{Bench, Operation, step, next, writes-at, record-for, operate, applies, answer, done}
-use Rattle.viper.specs.Runs.{Ran, ends, one-more, ending-of, unless-stopped, stepped as by-answer, over-and-over}
+use Rattle.viper.specs.Operations.{Bench, step, record-for, operate, applies, answer, done}
+use Rattle.viper.specs.Runs.{Ran, ends, ending-of, unless-stopped, stepped as by-answer, over-and-over}
 use Rattle.viper.specs.Judging.{Lawful}
 use Rattle.viper.specs.Told.{bench}
 use Rattle.viper.proofs.Planning.{word-back}
 use Rattle.viper.proofs.Lowest.{lowest-by, five-six}
+use Rattle.viper.specs.declared.finish.Stepped.{Stepped as AfterStep}
 
 -- ---- places
 
@@ -56,10 +55,6 @@ changing-is old new (some q) = rw (where-place q)
 -- a word written at a fitted place, read and written again
 pub put-again : (r : Mem) (q : Where) (v : ℕ) → fitted r q ≡ true → rewritten r (writing (some q) (with-word r q v)) ≡ with-word r q v
 put-again r (io, n) v h = rw (where-place (io, n), word-back r io n v h)
-
-not-false : (b : Bool) → not b ≡ false → b ≡ true
-not-false true h = refl
-not-false false h = absurd (true≢false h)
 
 -- the stores after a part are those before it, or those with one word written
 after-ram : (k : Part) (w : ℕ) (s : State) → lacks (s .0) (writes-by k w (s .3) (s .4)) ≡ false

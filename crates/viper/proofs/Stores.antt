@@ -1,17 +1,16 @@
 -- A place of the code and the report's io signal and address name the same word; a fitted place is below its store's length.
 -- Assumes nothing.
-use mathlib.Core.Path.{_≡_, refl, sym, ap, _∙_}
+use mathlib.Core.Path.{_≡_, sym, ap, _∙_}
 use mathlib.Core.Bool.{Bool, true, false, cond}
 use mathlib.Core.List.{List}
-use Prim.Native.Nat.{ℕ, _+_, _<_, _≤_, _^_}
+use Prim.Native.Nat.{ℕ, _+_, _<_, _^_}
 use native.Mathlib.Omega.{arith}
 use lib.Dec.{eqb, ltb, leb}
-use lib.ListN.{length, getD, set, length-set}
-use lib.Seq.{getD-set-same}
-use borrow.Author.Tests.{ltb-true, ltb-false, eq-eqb, ne-eqb, lt-leb, le-leb, le-ltb, lt-ltb, leb-false, leb-true}
+use lib.ListN.{length, getD, set}
+use borrow.Author.Tests.{ltb-true, eq-eqb, ne-eqb}
 use Rattle.report.specs.AnnexA.{Mem}
 use Rattle.report.specs.Parts.{Where, fitted, word-at, with-word}
-use Rattle.machine.specs.Held.{ram, where-of, place-of}
+use Rattle.machine.specs.Held.{ram, where-of}
 use Rattle.machine.specs.declared.Place.{Place}
 use Rattle.machine.specs.declared.Place.the-variants.{Main, Port}
 use Rattle.machine.specs.declared.MainAddress.{MainAddress}

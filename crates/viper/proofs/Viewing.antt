@@ -1,16 +1,14 @@
 -- n words from an address end within the store exactly when n is at most what the address leaves of it.
 -- Assumes nothing.
 use mathlib.Core.Path.{_≡_, sym, _∙_}
-use mathlib.Core.Bool.{Bool, true, false, cond}
-use mathlib.Core.List.{List, []}
+use mathlib.Core.Bool.{Bool, true, false}
+use mathlib.Core.List.{List}
 use Prim.Native.Nat.{ℕ, _+_, _-_, _≤_}
 use native.Mathlib.Omega.{arith}
 use lib.Dec.{leb}
 use lib.ListN.{length, take, drop}
 use borrow.Author.Tests.{le-leb, lt-leb, leb-true}
 use Rattle.report.proofs.Bits.{by-le}
-use Rattle.machine.specs.declared.Place.{Place}
-use Rattle.machine.specs.declared.Place.the-variants.{Main, Port}
 use Rattle.viper.specs.Views.{stretch, stretch-fitted}
 
 pub same-order : (words a n : ℕ) → a ≤ words → leb n (words - a) ≡ leb (a + n) words

@@ -1,7 +1,7 @@
 -- What the calls share: refusals 1 to 3, what is known once they are past, and what a run of steps comes to.
 -- Assumes nothing.
 use Prim.Native.Nat.{ℕ, _<_, _≤_, _^_}
-use mathlib.Core.Bool.{Bool, _||_}
+use mathlib.Core.Bool.{_||_}
 use mathlib.Core.List.{List}
 use lib.Dec.{leb, ltb}
 use Rattle.viper.specs.Refusals.{when, or-else}

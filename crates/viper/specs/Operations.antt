@@ -6,7 +6,6 @@ use mathlib.Core.Option.{Option, none, some}
 use mathlib.Core.List.{List}
 use lib.Dec.{eqb, leb, ltb}
 use lib.ListN.{length}
-use Rattle.report.specs.AnnexA.{Mem}
 use Rattle.report.specs.Section3.{State, NEXT}
 use Rattle.report.specs.Parts.{Where, fitted, with-word, written}
 use Rattle.machine.specs.Held.{where-of}

@@ -6,7 +6,7 @@ use native.Mathlib.Omega.{arith}
 use borrow.Author.Tests.{lt-ltb, le-ltb, ltb-true}
 use lib.IntN.{ℤ, pos, negsuc, subℕ, negℤ, natAbs, _+ℤ_, _-ℤ_}
 use lib.Signed.{mag, shrZ, mag-shr, ltZ, nonNeg}
-use mathlib.Core.Bool.{true, false, true≢false, false≢true}
+use mathlib.Core.Bool.{true, false, true≢false}
 use native.Mathlib.Nat.{not-suc-le-zero}
 use lib.Dec.{T}
 use mir.Syntax.{w32, w64}
@@ -15,7 +15,7 @@ use mir.Facts.{toZ-ofZ, toZ-pos, sfits-widen, fits-ofZ}
 use mir.ValLaws.{sfits-le}
 use Rattle.report.specs.Parts.{signed}
 use Rattle.report.specs.Section3.{RIGHTARITH}
-use Rattle.report.proofs.Bits.{by-le, bit, bit-of}
+use Rattle.report.proofs.Bits.{by-le, bit}
 use Rattle.report.proofs.Words.{rightarith-is}
 use Rattle.report.proofs.AnnexB.{signed-low, signed-high}
 

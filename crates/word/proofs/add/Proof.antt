@@ -1,10 +1,9 @@
 -- The i64 sum is exact, so leaving -2^31 to 2^31 - 1 is overflow as Annex B says it; a wrapped sum is below its operand exactly when there is a carry.
-use mathlib.Core.Path.{_≡_, refl, sym, ap, _∙_}
+use mathlib.Core.Path.{_≡_}
 use Prim.Native.Nat.{_+_, _-_, _%_, _^_}
 use native.Mathlib.Omega.{arith}
 use borrow.Author.Needs.{needs}
 use lib.Dec.{leb, ltb}
-use Rattle.report.specs.Parts.{overflows}
 use Rattle.report.proofs.AnnexB.{add-is, same-test}
 use Rattle.word.proofs.Casts.{sum-fits, sum-back}
 use Rattle.word.proofs.add.Statement.{statement}

@@ -1,5 +1,4 @@
 -- Each arm is the report's ALU at that function: its own terms for sums, its arithmetic reading for words bit by bit.
-use mathlib.Core.Path.{_≡_, sym, ap, _∙_}
 use borrow.Author.Tests.{ne-eqb}
 use Rattle.report.specs.Section3.{ALU}
 use Rattle.report.specs.Parts.{computed}

@@ -1,5 +1,4 @@
 -- The report's LEFT, in arithmetic, at b set and at b clear.
-use mathlib.Core.Path.{_≡_, _∙_}
 use native.Mathlib.Omega.{arith}
 use borrow.Author.Needs.{needs}
 use Rattle.report.proofs.Words.{left-is}

@@ -1,6 +1,5 @@
 -- Each arm is the report's shift in arithmetic.
-use mathlib.Core.Path.{_≡_, ap, _∙_}
-use Prim.Native.Nat.{_%_, _^_}
+use mathlib.Core.Path.{ap, _∙_}
 use borrow.Author.Tests.{ne-eqb}
 use Rattle.report.specs.Section3.{Triple}
 use Rattle.report.specs.Parts.{shifted}

@@ -1,8 +1,7 @@
 use borrow.Author.Needs.{needs}
 use Rattle.word.proofs.signed.Statement.{statement}
 use Rattle.word.proofs.signed.Tie as tie
-use Rattle.word.proofs.Casts.{cast-low, cast-high, high-64, high-fits}
-use native.Mathlib.Omega.{arith}
+use Rattle.word.proofs.Casts.{cast-low, cast-high, high-fits}
 
 cast-result : tie.Need-cast-result
 cast-result c = search needs

@@ -1,10 +1,9 @@
 -- The i64 difference is exact, so leaving -2^31 to 2^31 - 1 is overflow as Annex B says it; an unsigned r below m is the borrow.
-use mathlib.Core.Path.{_≡_, refl, sym, ap, _∙_}
+use mathlib.Core.Path.{_≡_, refl}
 use Prim.Native.Nat.{_+_, _-_, _%_, _^_}
 use native.Mathlib.Omega.{arith}
 use borrow.Author.Needs.{needs}
-use lib.Dec.{leb, ltb}
-use Rattle.report.specs.Parts.{overflows}
+use lib.Dec.{ltb}
 use Rattle.report.proofs.AnnexB.{sub-is}
 use Rattle.word.proofs.Casts.{dif-fits, dif-back}
 use Rattle.word.proofs.subtract.Statement.{statement}

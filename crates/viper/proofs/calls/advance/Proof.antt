@@ -1,9 +1,8 @@
 -- At its head the loop keeps `Going`: the run of the whole budget is, after the steps done, the run of the rest from the present bench.
-use mathlib.Core.Path.{_≡_, refl, sym, _∙_}
-use mathlib.Core.Bool.{Bool, true, false, not, true≢false}
-use Prim.Native.Nat.{ℕ, _-_, _<_, _^_}
+use Prim.Native.Nat.{_-_, _<_, _^_}
 use native.Mathlib.Omega.{arith}
 use borrow.Author.Needs.{needs}
+use borrow.Author.Tests.{not-true, not-false}
 use denote.Ref.{now}
 use Rattle.report.specs.Parts.{InRange}
 use Rattle.machine.specs.Held.{ram, state}
@@ -18,14 +17,6 @@ Inv-loop main₀ ports₀ trail₀ used budget table current₀ count₀ steps�
 abbrev μ-loop : tie.MeasureT-loop
 μ-loop main₀ ports₀ trail₀ used budget table current₀ count₀ steps₀ main ports trail current count steps =
     budget - steps
-
-live : (b : Bool) → not b ≡ true → b ≡ false
-live true e = absurd (true≢false (sym e))
-live false e = refl
-
-halted : (b : Bool) → not b ≡ false → b ≡ true
-halted true e = refl
-halted false e = absurd (true≢false e)
 
 registers : (s : tie.Start Inv-loop μ-loop) → (s .args .m .a < 2 ^ 32) × (s .args .m .x < 2 ^ 32) × (s .args .m .y < 2 ^ 32)
 registers s = (omega arith, omega arith, omega arith)
@@ -57,10 +48,10 @@ same-length-3 : tie.Need-same-length-3 Inv-loop μ-loop
 same-length-3 c = search needs
 
 returns : tie.Need-returns Inv-loop μ-loop
-returns c = leaves-budget (c .before .before .before .loop .inv) (live _ (c .before .if1 .taken)) (c .if2 .taken)
+returns c = leaves-budget (c .before .before .before .loop .inv) (not-true _ (c .before .if1 .taken)) (c .if2 .taken)
 
 step-once-requires : tie.Need-step-once-requires Inv-loop μ-loop
-step-once-requires c κs = (c .before .before .before .before .before .before .before .before .class-table .ensures, (c .before .before .before .before .before .before .before .loop .inv .lawful, live _ (c .before .before .before .before .before .if1 .taken)))
+step-once-requires c κs = (c .before .before .before .before .before .before .before .before .class-table .ensures, (c .before .before .before .before .before .before .before .loop .inv .lawful, not-true _ (c .before .before .before .before .before .if1 .taken)))
 
 enum-known-stepped : tie.Need-enum-known-stepped Inv-loop μ-loop
 enum-known-stepped c = search needs
@@ -80,7 +71,7 @@ same-length-6 c = search needs
 returns-2 : tie.Need-returns-2 Inv-loop μ-loop
 returns-2 c =
     let o = c .before .before .before .before .before .before .before .before .step-once in
-    leaves-lacking (c .before .before .before .before .before .before .before .before .before .before .before .before .before .before .before .before .loop .inv) (live _ (c .before .before .before .before .before .before .before .before .before .before .before .before .before .before .if1 .taken)) (c .before .before .before .before .before .before .before .before .before .before .before .before .before .if2 .left) (o .result) (ram (o .last .1 .1 .0) (o .last .1 .1 .1 .0)) (o .last .1 .1 .1 .1 .0) (o .ensures) (c .enum-told .given .1)
+    leaves-lacking (c .before .before .before .before .before .before .before .before .before .before .before .before .before .before .before .before .loop .inv) (not-true _ (c .before .before .before .before .before .before .before .before .before .before .before .before .before .before .if1 .taken)) (c .before .before .before .before .before .before .before .before .before .before .before .before .before .if2 .left) (o .result) (ram (o .last .1 .1 .0) (o .last .1 .1 .1 .0)) (o .last .1 .1 .1 .1 .0) (o .ensures) (c .enum-told .given .1)
 
 enum-told-2 : tie.Need-enum-told-2 Inv-loop μ-loop
 enum-told-2 c = search needs
@@ -97,7 +88,7 @@ same-length-9 c = search needs
 returns-3 : tie.Need-returns-3 Inv-loop μ-loop
 returns-3 c =
     let o = c .before .before .before .before .before .before .before .before .step-once in
-    leaves-without-room (c .before .before .before .before .before .before .before .before .before .before .before .before .before .before .before .before .loop .inv) (live _ (c .before .before .before .before .before .before .before .before .before .before .before .before .before .before .if1 .taken)) (c .before .before .before .before .before .before .before .before .before .before .before .before .before .if2 .left) (o .result) (ram (o .last .1 .1 .0) (o .last .1 .1 .1 .0)) (o .last .1 .1 .1 .1 .0) (o .ensures) (c .enum-told2 .given .1)
+    leaves-without-room (c .before .before .before .before .before .before .before .before .before .before .before .before .before .before .before .before .loop .inv) (not-true _ (c .before .before .before .before .before .before .before .before .before .before .before .before .before .before .if1 .taken)) (c .before .before .before .before .before .before .before .before .before .before .before .before .before .if2 .left) (o .result) (ram (o .last .1 .1 .0) (o .last .1 .1 .1 .0)) (o .last .1 .1 .1 .1 .0) (o .ensures) (c .enum-told2 .given .1)
 
 add-steps : tie.Need-add-steps Inv-loop μ-loop
 add-steps c =
@@ -116,7 +107,7 @@ loop-again : tie.Need-loop-again Inv-loop μ-loop
 loop-again c =
     let o = c .before .before .before .before .before .before .before .before .before .step-once in
     let k = c .before .stepped .given in
-    goes-on-after (c .before .before .before .before .before .before .before .before .before .before .before .before .before .before .before .before .before .loop .inv) (live _ (c .before .before .before .before .before .before .before .before .before .before .before .before .before .before .before .if1 .taken)) (c .before .before .before .before .before .before .before .before .before .before .before .before .before .before .if2 .left) (o .result) (k .0 .0) (k .0 .1 .0) (o .last .1 .1 .0) (o .last .1 .1 .1 .0) (o .last .1 .1 .1 .1 .0) (o .ensures) (k .1)
+    goes-on-after (c .before .before .before .before .before .before .before .before .before .before .before .before .before .before .before .before .before .loop .inv) (not-true _ (c .before .before .before .before .before .before .before .before .before .before .before .before .before .before .before .if1 .taken)) (c .before .before .before .before .before .before .before .before .before .before .before .before .before .before .if2 .left) (o .result) (k .0 .0) (k .0 .1 .0) (o .last .1 .1 .0) (o .last .1 .1 .1 .0) (o .last .1 .1 .1 .1 .0) (o .ensures) (k .1)
 
 same-length-10 : tie.Need-same-length-10 Inv-loop μ-loop
 same-length-10 c = search needs
@@ -128,7 +119,7 @@ same-length-12 : tie.Need-same-length-12 Inv-loop μ-loop
 same-length-12 c = search needs
 
 returns-4 : tie.Need-returns-4 Inv-loop μ-loop
-returns-4 c = leaves-stopped (c .before .before .loop .inv) (halted _ (c .if1 .left))
+returns-4 c = leaves-stopped (c .before .before .loop .inv) (not-false _ (c .if1 .left))
 
 pub advance-spec : {M : Type 1} → statement M
 advance-spec =

@@ -1,7 +1,6 @@
 -- Each test is the table's, in its order.
 use Prim.Native.Nat.{_^_}
 use borrow.Author.Tests.{le-leb, lt-leb, lt-ltb, le-ltb}
-use mathlib.Core.Bool.{or-true}
 use Rattle.viper.proofs.calls.judge.Statement.{statement}
 use Rattle.viper.proofs.calls.judge.Tie as tie
 

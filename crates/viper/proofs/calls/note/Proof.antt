@@ -1,10 +1,9 @@
 -- Refusals 1, 3 and 6, or the record in the trail.
-use mathlib.Core.Path.{_≡_, refl}
 use Prim.Native.Nat.{_<_, _^_}
 use native.Mathlib.Omega.{arith}
 use denote.Ref.{now}
 use Rattle.machine.specs.Held.{ram}
-use Rattle.trail.proofs.Marks.{Sound, old-values-good}
+use Rattle.trail.proofs.Marks.{old-values-good}
 use Rattle.viper.proofs.Exits.{noted-p, noted-count, noted-full, noted-done}
 use borrow.Author.Needs.{needs}
 use Rattle.viper.proofs.calls.note.Statement.{statement}

@@ -1,8 +1,7 @@
 -- Refusals 1 to 3, or the rule of a run.
-use mathlib.Core.Path.{_≡_, sym, _∙_}
 use denote.Ref.{now}
 use lib.ListN.{length}
-use Rattle.viper.specs.Judging.{ran-told, answer-by}
+use Rattle.viper.specs.Judging.{ran-told}
 use Rattle.viper.proofs.Exits.{passed, run-refused, run-ended}
 use borrow.Author.Needs.{needs}
 use Rattle.viper.proofs.calls.run.Statement.{statement}

@@ -1,13 +1,13 @@
 -- Refusals 1 to 3 and 5, or the word written, with its record on the trail.
-use mathlib.Core.Path.{_≡_, refl, sym, _∙_}
-use mathlib.Core.Bool.{Bool, true, false, not, true≢false}
+use mathlib.Core.Path.{refl, _∙_}
 use Prim.Native.Nat.{_<_, _^_}
 use native.Mathlib.Omega.{arith}
+use borrow.Author.Tests.{not-true, not-false}
 use denote.Ref.{now}
 use lib.ListN.{length}
 use Rattle.machine.specs.Held.{ram}
 use Rattle.trail.specs.declared.Added.the-variants as added
-use Rattle.trail.proofs.Marks.{Sound, old-values-good}
+use Rattle.trail.proofs.Marks.{old-values-good}
 use Rattle.viper.specs.Operations.{set-word}
 use Rattle.viper.specs.Phases as phases
 use Rattle.viper.proofs.Stores.{changing-addressed, changing-value, finish-full, finish-done}
@@ -16,14 +16,6 @@ use Rattle.viper.proofs.Exits.{passed, refused-first, set-unfitted, set
 use borrow.Author.Needs.{needs}
 use Rattle.viper.proofs.calls.set.Statement.{statement}
 use Rattle.viper.proofs.calls.set.Tie as tie
-
-no : (t : Bool) → not t ≡ true → t ≡ false
-no true e = absurd (true≢false (sym e))
-no false e = refl
-
-yes : (t : Bool) → not t ≡ false → t ≡ true
-yes true e = refl
-yes false e = absurd (true≢false e)
 
 registers : (s : tie.Start) → (s .args .m .a < 2 ^ 32) × (s .args .m .x < 2 ^ 32) × (s .args .m .y < 2 ^ 32)
 registers s = (omega arith, omega arith, omega arith)
@@ -62,12 +54,12 @@ returns-2 : tie.Need-returns-2
 returns-2 c =
     rw (c .refuse2 .ensures)
     (let s = c .before .before .before .before .before .before .before .before .before .before .before in
-    set-unfitted (s .args .m) (now (s .args .main)) (now (s .args .ports)) (now (s .args .trail)) (s .args .used) (s .args .place) (s .args .value) (c .before .before .before .before .before .before .before .judge .result) (c .before .before .before .before .before .before .before .judge .ensures) (c .before .before .before .before .before .enum-told .given .1) (c .before .before .is-fitted .result) (c .before .before .is-fitted .ensures) (no _ (c .before .if1 .taken)))
+    set-unfitted (s .args .m) (now (s .args .main)) (now (s .args .ports)) (now (s .args .trail)) (s .args .used) (s .args .place) (s .args .value) (c .before .before .before .before .before .before .before .judge .result) (c .before .before .before .before .before .before .before .judge .ensures) (c .before .before .before .before .before .enum-told .given .1) (c .before .before .is-fitted .result) (c .before .before .is-fitted .ensures) (not-true _ (c .before .if1 .taken)))
 
 word-at-requires : tie.Need-word-at-requires
 word-at-requires c κs =
     let s = c .before .before .before .before .before .before .before .before .before .before .before .before in
-    set-fitted (s .args .m) (now (s .args .main)) (now (s .args .ports)) (now (s .args .trail)) (s .args .used) (s .args .place) (s .args .value) (c .before .before .before .before .before .before .before .before .judge .result) (c .before .before .before .before .before .before .before .before .judge .ensures) (c .before .before .before .before .before .before .enum-told .given .1) (c .before .before .before .is-fitted .result) (c .before .before .before .is-fitted .ensures) (yes _ (c .before .before .if1 .left))
+    set-fitted (s .args .m) (now (s .args .main)) (now (s .args .ports)) (now (s .args .trail)) (s .args .used) (s .args .place) (s .args .value) (c .before .before .before .before .before .before .before .before .judge .result) (c .before .before .before .before .before .before .before .before .judge .ensures) (c .before .before .before .before .before .before .enum-told .given .1) (c .before .before .before .is-fitted .result) (c .before .before .before .is-fitted .ensures) (not-false _ (c .before .before .if1 .left))
 
 changed-to-requires : tie.Need-changed-to-requires
 changed-to-requires c κs = search needs
@@ -79,7 +71,7 @@ old-values-requires c κs =
     let o = c .before .word-at in
     let w = c .changed-to in
     let hw = w .ensures ∙ written-over stores (s .args .place) (o .result) (s .args .value) (o .ensures) in
-    rw hw (changing-addressed stores (phases.Word (s .args .place) (s .args .value)) (set-fitted (s .args .m) (now (s .args .main)) (now (s .args .ports)) (now (s .args .trail)) (s .args .used) (s .args .place) (s .args .value) (c .before .before .before .before .before .before .before .before .before .before .judge .result) (c .before .before .before .before .before .before .before .before .before .before .judge .ensures) (c .before .before .before .before .before .before .before .before .enum-told .given .1) (c .before .before .before .before .before .is-fitted .result) (c .before .before .before .before .before .is-fitted .ensures) (yes _ (c .before .before .before .before .if1 .left))))
+    rw hw (changing-addressed stores (phases.Word (s .args .place) (s .args .value)) (set-fitted (s .args .m) (now (s .args .main)) (now (s .args .ports)) (now (s .args .trail)) (s .args .used) (s .args .place) (s .args .value) (c .before .before .before .before .before .before .before .before .before .before .judge .result) (c .before .before .before .before .before .before .before .before .before .before .judge .ensures) (c .before .before .before .before .before .before .before .before .enum-told .given .1) (c .before .before .before .before .before .is-fitted .result) (c .before .before .before .before .before .is-fitted .ensures) (not-false _ (c .before .before .before .before .if1 .left))))
 
 add-requires : tie.Need-add-requires
 add-requires c κs =
@@ -96,7 +88,7 @@ add-requires c κs =
         a = registers s .0;
         x = registers s .1;
         y = registers s .2;
-        address = rw hw (changing-addressed stores (phases.Word (s .args .place) (s .args .value)) (set-fitted (s .args .m) (now (s .args .main)) (now (s .args .ports)) (now (s .args .trail)) (s .args .used) (s .args .place) (s .args .value) (c .before .before .before .before .before .before .before .before .before .before .before .before .judge .result) (c .before .before .before .before .before .before .before .before .before .before .before .before .judge .ensures) (c .before .before .before .before .before .before .before .before .before .before .enum-told .given .1) (c .before .before .before .before .before .before .before .is-fitted .result) (c .before .before .before .before .before .before .before .is-fitted .ensures) (yes _ (c .before .before .before .before .before .before .if1 .left))));
+        address = rw hw (changing-addressed stores (phases.Word (s .args .place) (s .args .value)) (set-fitted (s .args .m) (now (s .args .main)) (now (s .args .ports)) (now (s .args .trail)) (s .args .used) (s .args .place) (s .args .value) (c .before .before .before .before .before .before .before .before .before .before .before .before .judge .result) (c .before .before .before .before .before .before .before .before .before .before .before .before .judge .ensures) (c .before .before .before .before .before .before .before .before .before .before .enum-told .given .1) (c .before .before .before .before .before .before .before .is-fitted .result) (c .before .before .before .before .before .before .before .is-fitted .ensures) (not-false _ (c .before .before .before .before .before .before .if1 .left))));
         value = rw hw (changing-value (now (s .args .main)) (now (s .args .ports)) (phases.Word (s .args .place) (s .args .value)) (λ i. omega (arith, k .before .before .slice-known .given i)) (λ i. omega (arith, k .before .slice-known2 .given i)));
       })),
     )
@@ -129,13 +121,13 @@ returns-3 c =
     let hw = w .ensures ∙ written-over stores (s .args .place) (o .result) (s .args .value) (o .ensures) in
     let v = c .before .before .before .before .before .before .before .old-values in
     let n = c .before .before .before .before .before .add in
-    set-full (s .args .m) (now (s .args .main)) (now (s .args .ports)) (now (s .args .trail)) (s .args .used) (s .args .place) (s .args .value) (c .before .before .before .before .before .before .before .before .before .before .before .before .before .before .before .before .before .before .judge .result) (c .before .before .before .before .before .before .before .before .before .before .before .before .before .before .before .before .before .before .judge .ensures) (c .before .before .before .before .before .before .before .before .before .before .before .before .before .before .before .before .enum-told .given .1) (c .before .before .before .before .before .before .before .before .before .before .before .before .before .is-fitted .result) (c .before .before .before .before .before .before .before .before .before .before .before .before .before .is-fitted .ensures) (yes _ (c .before .before .before .before .before .before .before .before .before .before .before .before .if1 .left)) added.Full stores (n .last .0)
+    set-full (s .args .m) (now (s .args .main)) (now (s .args .ports)) (now (s .args .trail)) (s .args .used) (s .args .place) (s .args .value) (c .before .before .before .before .before .before .before .before .before .before .before .before .before .before .before .before .before .before .judge .result) (c .before .before .before .before .before .before .before .before .before .before .before .before .before .before .before .before .before .before .judge .ensures) (c .before .before .before .before .before .before .before .before .before .before .before .before .before .before .before .before .enum-told .given .1) (c .before .before .before .before .before .before .before .before .before .before .before .before .before .is-fitted .result) (c .before .before .before .before .before .before .before .before .before .before .before .before .before .is-fitted .ensures) (not-false _ (c .before .before .before .before .before .before .before .before .before .before .before .before .if1 .left)) added.Full stores (n .last .0)
     (finish-full (s .args .m) (record { machine = s .args .m; written = phases.Word (s .args .place) (s .args .value) }) stores (now (s .args .trail)) (s .args .used) (w .result) (v .result) (n .result) (n .last .0) hw (v .ensures) (n .ensures) (c .before .enum-told2 .given .1)) refl)
 
 put-word-requires : tie.Need-put-word-requires
 put-word-requires c κs =
     let s = c .before .before .before .before .before .before .before .before .before .before .before .before .before .before .before .before .before .before .before .before .before .before .before .before in
-    set-fitted (s .args .m) (now (s .args .main)) (now (s .args .ports)) (now (s .args .trail)) (s .args .used) (s .args .place) (s .args .value) (c .before .before .before .before .before .before .before .before .before .before .before .before .before .before .before .before .before .before .before .before .judge .result) (c .before .before .before .before .before .before .before .before .before .before .before .before .before .before .before .before .before .before .before .before .judge .ensures) (c .before .before .before .before .before .before .before .before .before .before .before .before .before .before .before .before .before .before .enum-told .given .1) (c .before .before .before .before .before .before .before .before .before .before .before .before .before .before .before .is-fitted .result) (c .before .before .before .before .before .before .before .before .before .before .before .before .before .before .before .is-fitted .ensures) (yes _ (c .before .before .before .before .before .before .before .before .before .before .before .before .before .before .if1 .left))
+    set-fitted (s .args .m) (now (s .args .main)) (now (s .args .ports)) (now (s .args .trail)) (s .args .used) (s .args .place) (s .args .value) (c .before .before .before .before .before .before .before .before .before .before .before .before .before .before .before .before .before .before .before .before .judge .result) (c .before .before .before .before .before .before .before .before .before .before .before .before .before .before .before .before .before .before .before .before .judge .ensures) (c .before .before .before .before .before .before .before .before .before .before .before .before .before .before .before .before .before .before .enum-told .given .1) (c .before .before .before .before .before .before .before .before .before .before .before .before .before .before .before .is-fitted .result) (c .before .before .before .before .before .before .before .before .before .before .before .before .before .before .before .is-fitted .ensures) (not-false _ (c .before .before .before .before .before .before .before .before .before .before .before .before .before .before .if1 .left))
 
 same-length-6 : tie.Need-same-length-6
 same-length-6 c = search needs
@@ -157,7 +149,7 @@ returns-4 c =
     let n = c .before .before .before .before .before .before .before .before .before .before .before .before .add in
     let k = c .before .before .before .before .before .before .before .before .n .given in
     let u = c .before .before .before .before .put-word in
-    set-done (s .args .m) (now (s .args .main)) (now (s .args .ports)) (now (s .args .trail)) (s .args .used) (s .args .place) (s .args .value) (c .before .before .before .before .before .before .before .before .before .before .before .before .before .before .before .before .before .before .before .before .before .before .before .before .before .judge .result) (c .before .before .before .before .before .before .before .before .before .before .before .before .before .before .before .before .before .before .before .before .before .before .before .before .before .judge .ensures) (c .before .before .before .before .before .before .before .before .before .before .before .before .before .before .before .before .before .before .before .before .before .before .before .enum-told .given .1) (c .before .before .before .before .before .before .before .before .before .before .before .before .before .before .before .before .before .before .before .before .is-fitted .result) (c .before .before .before .before .before .before .before .before .before .before .before .before .before .before .before .before .before .before .before .before .is-fitted .ensures) (yes _ (c .before .before .before .before .before .before .before .before .before .before .before .before .before .before .before .before .before .before .before .if1 .left)) (added.Used (k .0 .0)) (ram (u .last .0) (u .last .1 .0)) (n .last .0)
+    set-done (s .args .m) (now (s .args .main)) (now (s .args .ports)) (now (s .args .trail)) (s .args .used) (s .args .place) (s .args .value) (c .before .before .before .before .before .before .before .before .before .before .before .before .before .before .before .before .before .before .before .before .before .before .before .before .before .judge .result) (c .before .before .before .before .before .before .before .before .before .before .before .before .before .before .before .before .before .before .before .before .before .before .before .before .before .judge .ensures) (c .before .before .before .before .before .before .before .before .before .before .before .before .before .before .before .before .before .before .before .before .before .before .before .enum-told .given .1) (c .before .before .before .before .before .before .before .before .before .before .before .before .before .before .before .before .before .before .before .before .is-fitted .result) (c .before .before .before .before .before .before .before .before .before .before .before .before .before .before .before .before .before .before .before .before .is-fitted .ensures) (not-false _ (c .before .before .before .before .before .before .before .before .before .before .before .before .before .before .before .before .before .before .before .if1 .left)) (added.Used (k .0 .0)) (ram (u .last .0) (u .last .1 .0)) (n .last .0)
     (finish-done (s .args .m) (record { machine = s .args .m; written = phases.Word (s .args .place) (s .args .value) }) stores (now (s .args .trail)) (s .args .used) (w .result) (v .result) (n .result) (n .last .0) hw (v .ensures) (n .ensures) (k .0 .0) (ram (u .last .0) (u .last .1 .0)) (k .1) (u .ensures)) (k .0 .0) refl
 
 pub set-spec : {M : Type 1} → statement M

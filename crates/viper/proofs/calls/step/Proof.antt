@@ -1,8 +1,7 @@
 -- Refusals 1 to 4, or a run of one step.
-use mathlib.Core.Path.{_≡_, sym, _∙_}
 use denote.Ref.{now}
 use lib.ListN.{length}
-use Rattle.viper.specs.Judging.{ran-told, answer-by}
+use Rattle.viper.specs.Judging.{ran-told}
 use mathlib.Core.Path.{refl}
 use Rattle.viper.specs.Operations as operations
 use Rattle.viper.proofs.Exits.{passed, refused-first, refused-stopped, stepped-once}

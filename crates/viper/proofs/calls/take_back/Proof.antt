@@ -1,5 +1,5 @@
 -- Refusals 1 to 3, 7 and 8, or the old values of the newest record.
-use mathlib.Core.Path.{_≡_, refl, ap, sym, _∙_}
+use mathlib.Core.Path.{ap, _∙_}
 use native.Mathlib.Omega.{arith}
 use denote.Ref.{now}
 use lib.ListN.{length}

@@ -1,6 +1,5 @@
 -- The record is that of an operation that changed no register and no word.
-use mathlib.Core.Path.{refl, sym, ap, _∙_}
-use native.Mathlib.Omega.{arith}
+use mathlib.Core.Path.{refl}
 use denote.Ref.{now}
 use Rattle.report.specs.AnnexA.{Mem}
 use Rattle.trail.specs.declared.Word.the-variants.{Kept}

@@ -1,6 +1,4 @@
 -- The record is that of an operation that wrote this word, and then the word is put.
-use mathlib.Core.Path.{refl, sym, ap, _∙_}
-use native.Mathlib.Omega.{arith}
 use denote.Ref.{now}
 use mathlib.Core.Bool.{false}
 use Rattle.machine.specs.Held.{ram}

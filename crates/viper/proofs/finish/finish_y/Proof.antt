@@ -1,12 +1,11 @@
 -- Y keeps its value, or the record is that of an operation that changed it alone.
-use mathlib.Core.Path.{refl, sym, ap, _∙_}
+use mathlib.Core.Path.{refl}
 use native.Mathlib.Omega.{arith}
 use denote.Ref.{now}
 use Rattle.report.specs.AnnexA.{Mem}
 use Rattle.trail.specs.OneChange.{is-y}
 use Rattle.trail.specs.declared.Word.the-variants.{Kept}
 use Rattle.viper.specs.Phases.{alone}
-use Rattle.viper.specs.Finishing.{completed}
 use Rattle.viper.proofs.Completing.{with-y, y-values, completes-full, completes}
 use borrow.Author.Needs.{needs}
 use Rattle.viper.proofs.finish.finish_y.Statement.{statement}

@@ -1,7 +1,4 @@
 -- The word keeps its value, or not.
-use mathlib.Core.Path.{refl, sym, ap, _∙_}
-use native.Mathlib.Omega.{arith}
-use denote.Ref.{now}
 use borrow.Author.Tests.{eq-eqb, ne-eqb}
 use borrow.Author.Needs.{needs}
 use Rattle.viper.proofs.finish.note_word.Statement.{statement}

@@ -1,7 +1,6 @@
 -- Each field of the answer is what its function ensures.
 use mathlib.Core.Path.{refl, _∙_}
 use native.Mathlib.Omega.{arith}
-use Rattle.report.specs.Section3.{OFFSET}
 use borrow.Author.Needs.{needs}
 use Rattle.viper.proofs.phases.decode.Statement.{statement}
 use Rattle.viper.proofs.phases.decode.Tie as tie

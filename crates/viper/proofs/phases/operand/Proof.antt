@@ -1,7 +1,4 @@
 -- The three ways of `operands-of` for a function.
-use mathlib.Core.Path.{refl, sym, ap, _∙_}
-use native.Mathlib.Omega.{arith}
-use denote.Ref.{now}
 use borrow.Author.Tests.{eq-eqb, ne-eqb}
 use Rattle.viper.specs.Phases.{operands-of}
 use borrow.Author.Needs.{needs}

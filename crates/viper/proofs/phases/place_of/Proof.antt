@@ -1,7 +1,4 @@
 -- Function 6 is the ports'.
-use mathlib.Core.Path.{refl, sym, ap, _∙_}
-use native.Mathlib.Omega.{arith}
-use denote.Ref.{now}
 use borrow.Author.Tests.{eq-eqb, ne-eqb}
 use Rattle.viper.proofs.phases.place_of.Statement.{statement}
 use Rattle.viper.proofs.phases.place_of.Tie as tie

@@ -1,28 +1,18 @@
 -- Each way out is one of Completing's, at the values that the phases gave.
-use mathlib.Core.Path.{_≡_, refl, sym, ap, _∙_}
-use mathlib.Core.Bool.{Bool, true, false, not, true≢false}
+use mathlib.Core.Path.{sym, ap, _∙_}
 use Prim.Native.Nat.{_<_, _^_}
 use native.Mathlib.Omega.{arith}
+use borrow.Author.Tests.{not-true, not-false}
 use denote.Ref.{now}
-use lib.ListN.{length}
 use Rattle.report.specs.Parts.{InRange}
 use Rattle.machine.specs.Held.{ram, state, where-of}
 use Rattle.instruction.specs.PartOf.{part-of}
-use Rattle.viper.specs.Finishing.{Fitted}
 use Rattle.viper.proofs.Completing.{fetch-lacking, halts-once, skips-once, compares-once, compares-lacking, writes-once, writes-lacking, computes-once, computes-lacking}
 use Rattle.report.proofs.Stores.{fitted-low}
 use Rattle.viper.proofs.Stores.{view-one}
 use borrow.Author.Needs.{needs}
 use Rattle.viper.proofs.phases.step_once.Statement.{statement}
 use Rattle.viper.proofs.phases.step_once.Tie as tie
-
-no : (t : Bool) → not t ≡ true → t ≡ false
-no true e = absurd (true≢false (sym e))
-no false e = refl
-
-yes : (t : Bool) → not t ≡ false → t ≡ true
-yes true e = refl
-yes false e = absurd (true≢false e)
 
 registers : (s : tie.Start) → (s .args .m .a < 2 ^ 32) × (s .args .m .x < 2 ^ 32) × (s .args .m .y < 2 ^ 32)
 registers s = (omega arith, omega arith, omega arith)
@@ -114,7 +104,7 @@ returns-3 : tie.Need-returns-3
 returns-3 c =
     let q = c .before .before .before .before .before .before .before .before in
     let s = q .before .before .before .before .before .before .before .before .before in
-    writes-lacking (s .args .m) (now (s .args .main)) (now (s .args .ports)) (q .before .before .w .given .0 .0) (q .decode .result) (in-range q) (s .pre .1 .1) (sym (q .before .before .before .before .fetch .ensures) ∙ q .before .before .w .given .1) (q .decode .ensures) (now (s .args .trail)) (s .args .used) (ap part-of (c .before .before .before .before .before .enum-told5 .given .1)) (c .before .before .before .before .place-of .ensures) (c .before .is-fitted .ensures) (no _ (c .if1 .taken))
+    writes-lacking (s .args .m) (now (s .args .main)) (now (s .args .ports)) (q .before .before .w .given .0 .0) (q .decode .result) (in-range q) (s .pre .1 .1) (sym (q .before .before .before .before .fetch .ensures) ∙ q .before .before .w .given .1) (q .decode .ensures) (now (s .args .trail)) (s .args .used) (ap part-of (c .before .before .before .before .before .enum-told5 .given .1)) (c .before .before .before .before .place-of .ensures) (c .before .is-fitted .ensures) (not-true _ (c .if1 .taken))
 
 finish-word-requires : tie.Need-finish-word-requires
 finish-word-requires c κs =
@@ -122,7 +112,7 @@ finish-word-requires c κs =
     let q = c .before .before .before .before .before .before .before .place-of .result in
     let main = now (s .args .main) in
     let ports = now (s .args .ports) in
-    let has = sym (view-one main ports q) ∙ (sym (c .before .before .before .before .is-fitted .ensures) ∙ yes _ (c .before .before .before .if1 .left)) in
+    let has = sym (view-one main ports q) ∙ (sym (c .before .before .before .before .is-fitted .ensures) ∙ not-false _ (c .before .before .before .if1 .left)) in
     ((s .pre .1 .0 .p-lt, s .pre .1 .0 .used-le), record { has = has; low = fitted-low (ram main ports) (where-of q) (s .pre .1 .0 .main-le) (s .pre .1 .0 .ports-le) has })
 
 enum-told-6 : tie.Need-enum-told-6
@@ -200,7 +190,7 @@ returns-7 : tie.Need-returns-7
 returns-7 c =
     let q = c .before .before .before .before .before .before .before .before .before .before .before .before .before .before .before .before .before .before in
     let s = q .before .before .before .before .before .before .before .before .before in
-    writes-once (s .args .m) (now (s .args .main)) (now (s .args .ports)) (q .before .before .w .given .0 .0) (q .decode .result) (in-range q) (s .pre .1 .1) (sym (q .before .before .before .before .fetch .ensures) ∙ q .before .before .w .given .1) (q .decode .ensures) (now (s .args .trail)) (s .args .used) (ap part-of (c .before .before .before .before .before .before .before .before .before .before .before .before .before .before .before .enum-told5 .given .1)) (c .before .before .before .before .before .before .before .before .before .before .before .before .before .before .place-of .ensures) (c .before .before .before .before .before .before .before .before .before .before .before .is-fitted .ensures) (yes _ (c .before .before .before .before .before .before .before .before .before .before .if1 .left)) (c .before .before .before .before .before .before .finish-word .ensures)
+    writes-once (s .args .m) (now (s .args .main)) (now (s .args .ports)) (q .before .before .w .given .0 .0) (q .decode .result) (in-range q) (s .pre .1 .1) (sym (q .before .before .before .before .fetch .ensures) ∙ q .before .before .w .given .1) (q .decode .ensures) (now (s .args .trail)) (s .args .used) (ap part-of (c .before .before .before .before .before .before .before .before .before .before .before .before .before .before .before .enum-told5 .given .1)) (c .before .before .before .before .before .before .before .before .before .before .before .before .before .before .place-of .ensures) (c .before .before .before .before .before .before .before .before .before .before .before .is-fitted .ensures) (not-false _ (c .before .before .before .before .before .before .before .before .before .before .if1 .left)) (c .before .before .before .before .before .before .finish-word .ensures)
 
 same-length-14 : tie.Need-same-length-14
 same-length-14 c = search needs
