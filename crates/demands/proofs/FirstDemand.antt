@@ -27,7 +27,7 @@ use Rattle.viper.specs.Runs as runs
 use Rattle.viper.specs.Runs.{run-by, run-outcome}
 use Rattle.viper.specs.TakingBack.{back-outcome}
 use Rattle.viper.specs.Told.{bench, told, run-told}
-use Rattle.viper.specs.Judging.{Lawful}
+use Rattle.step.specs.Lawful.{Lawful}
 use Rattle.viper.specs.Views.{stretch, stretch-fitted, viewed, view-fitted}
 use Rattle.demands.specs.Histories.{accepted-or-refused, answered, called}
 

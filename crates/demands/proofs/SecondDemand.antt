@@ -33,7 +33,7 @@ use Rattle.viper.specs.declared.Answer.the-variants.{Done, Refused}
 use Rattle.viper.specs.declared.Outcome.{Outcome}
 use Rattle.viper.specs.Told.{bench, told}
 use Rattle.viper.specs.Operations as operations
-use Rattle.viper.specs.Phases.{lacks, step-unfitted}
+use Rattle.step.specs.Phases.{lacks, step-unfitted}
 use Rattle.viper.specs.Operations.{Bench, Operation, step, reset, force, set-word, operate, next, writes-at, record-for, unfitted, applies, outcome}
 use Rattle.demands.specs.Histories.{Valid}
 use Rattle.demands.proofs.FirstDemand.{LawfulBench, lawful-passes, refused-lowest, accepted-none}

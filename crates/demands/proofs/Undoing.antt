@@ -17,7 +17,7 @@ use Rattle.report.proofs.RangeKept.{next-in-range, put-main, put-ports}
 use Rattle.machine.specs.Held.{where-of}
 use Rattle.trail.specs.Records.{record-bytes}
 use Rattle.trail.proofs.RecordRestores.{Touched, kept, put, main-kept, ports-kept, Restores, record-restores}
-use Rattle.viper.specs.Phases.{lacks, step-unfitted}
+use Rattle.step.specs.Phases.{lacks, step-unfitted}
 use Rattle.viper.specs.Operations.{Operation, step, reset, force, set-word, operate, next, writes-at, record-for, unfitted}
 use Rattle.demands.specs.Histories.{Valid, Typed}
 

@@ -29,19 +29,20 @@ use Rattle.viper.specs.declared.Answer.{Answer}
 use Rattle.viper.specs.declared.Answer.the-variants.{Done, Refused}
 use Rattle.viper.specs.declared.RunAnswer.the-variants as run-answer
 use Rattle.viper.specs.Refusals.{when, or-else}
-use Rattle.viper.specs.Phases.{step-unfitted}
+use Rattle.step.specs.Phases.{step-unfitted}
 use Rattle.report.proofs.Stores.{fitted-low}
-use Rattle.viper.proofs.Stores.{view-one}
+use Rattle.viper.proofs.Viewing.{view-one}
 use Rattle.viper.specs.Operations.{Bench, Operation, step, reset, force, set-word, operate, run, back, Call, lends-stores, next, applies, answer, record-for, done, broken, newest-of, outcome}
 use Rattle.viper.specs.TakingBack.{back-outcome}
 use Rattle.viper.specs.Runs.{Ran, over-and-over, run-outcome}
-use Rattle.viper.specs.Phases as write
+use Rattle.step.specs.Phases as write
 use Rattle.viper.specs.Views.{view-fitted}
-use Rattle.viper.specs.Finishing.{Fitted, left, Finish, finished}
+use Rattle.step.specs.Finishing.{Fitted, left, Finish, finished}
 use Rattle.viper.specs.Noting.{noted, noted-by, stores-restored, Refits}
-use Rattle.viper.specs.Judging.{first-refusals, Lawful, answer-by}
+use Rattle.step.specs.Lawful.{Lawful}
+use Rattle.viper.specs.Judging.{first-refusals, answer-by}
 use Rattle.viper.specs.Told.{bench}
-use Rattle.viper.proofs.Planning.{word-back}
+use Rattle.step.proofs.Planning.{word-back}
 use Rattle.viper.proofs.Stepping.{answer-is, turn, out-of-budget, stops, finished-between, put-again}
 
 -- ---- refusals 1 to 3

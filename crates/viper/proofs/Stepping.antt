@@ -24,21 +24,21 @@ use Rattle.trail.specs.Records.{record-of, changed-word, put, added}
 use Rattle.trail.specs.declared.Added.{Added}
 use Rattle.trail.specs.declared.Added.the-variants as added·is
 use Rattle.trail.proofs.Adding.{put-length}
-use Rattle.viper.specs.Phases as phases
+use Rattle.step.specs.Phases as phases
 use Rattle.viper.specs.declared.Answer.{Answer}
 use Rattle.viper.specs.declared.Answer.the-variants.{Done, Refused}
 use Rattle.viper.specs.declared.Refusal.{Refusal}
 use Rattle.viper.specs.declared.Refusal.the-variants as refusal
-use Rattle.viper.specs.Phases.{Written, Change, Plan, lacks, step-unfitted, writing, change-of, planned}
-use Rattle.viper.specs.Finishing.{Addressed, changing, rewritten, left, Finish, finishing, finished, End, ended, answered-by, by-plan, once}
-use Rattle.viper.specs.declared.finish.Stepped.the-variants as stepped·is
+use Rattle.step.specs.Phases.{Written, Change, Plan, lacks, step-unfitted, writing, change-of, planned}
+use Rattle.step.specs.Finishing.{Addressed, changing, rewritten, left, Finish, finishing, finished, End, ended, answered-by, by-plan, once}
+use Rattle.step.specs.declared.finish.Stepped.the-variants as stepped·is
 use Rattle.viper.specs.Operations.{Bench, step, record-for, operate, applies, answer, done}
 use Rattle.viper.specs.Runs.{Ran, ends, ending-of, unless-stopped, stepped as by-answer, over-and-over}
-use Rattle.viper.specs.Judging.{Lawful}
+use Rattle.step.specs.Lawful.{Lawful}
 use Rattle.viper.specs.Told.{bench}
-use Rattle.viper.proofs.Planning.{word-back}
+use Rattle.step.proofs.Planning.{word-back}
 use Rattle.viper.proofs.Lowest.{lowest-by, five-six}
-use Rattle.viper.specs.declared.finish.Stepped.{Stepped as AfterStep}
+use Rattle.step.specs.declared.finish.Stepped.{Stepped as AfterStep}
 
 -- ---- places
 

@@ -1,6 +1,6 @@
--- What the calls share: refusals 1 to 3, what is known once they are past, and what a run of steps comes to.
+-- What the calls share: refusals 1 to 3, and what a run of steps comes to. What is known once they are past is `Lawful`, in the crate step.
 -- Assumes nothing.
-use Prim.Native.Nat.{ℕ, _<_, _≤_, _^_}
+use Prim.Native.Nat.{ℕ, _^_}
 use mathlib.Core.Bool.{_||_}
 use mathlib.Core.List.{List}
 use lib.Dec.{leb, ltb}
@@ -20,13 +20,6 @@ first-refusals p main ports trail used =
     or-else (when (leb (2 ^ 20) p) PTooLarge)
     (or-else (when (ltb (2 ^ 20) main || ltb (2 ^ 20) ports) StoreTooLong)
     (when (ltb trail used) CountTooLarge))
-
--- None of them applies.
-pub record Lawful (p main ports trail used : ℕ) : Type 0 where
-  pub p-lt : p < 2 ^ 20
-  pub main-le : main ≤ 2 ^ 20
-  pub ports-le : ports ≤ 2 ^ 20
-  pub used-le : used ≤ trail
 
 abbrev pub ran-told : Advanced → List ℕ → List ℕ → List ℕ → Ran
 ran-told r main ports trail = record { bench = bench (r .machine) main ports trail (r .used); steps = r .steps; ended = r .ending }

@@ -1,5 +1,3 @@
-pub mod Phases
-pub mod Finishing
 pub mod Refusals
 pub mod Operations
 pub mod Runs

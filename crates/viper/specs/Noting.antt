@@ -15,7 +15,7 @@ use Rattle.trail.specs.declared.OldValues.{OldValues}
 use Rattle.trail.specs.declared.Word.the-variants.{Kept}
 use Rattle.viper.specs.Refusals.{when, or-else, if-done}
 use Rattle.viper.specs.Operations.{Bench, Outcome}
-use Rattle.viper.specs.Finishing.{Fitted}
+use Rattle.step.specs.Finishing.{Fitted}
 use Rattle.viper.specs.declared.Refusal.the-variants.{PTooLarge, CountTooLarge, TrailFull}
 use Rattle.viper.specs.declared.Answer.{Answer}
 

@@ -14,7 +14,7 @@ use Rattle.trail.specs.Records.{record-of, put}
 use Rattle.trail.specs.Newest.{newest-fitted}
 use Rattle.trail.specs.declared.Newest.{Newest}
 use Rattle.trail.specs.declared.Newest.the-variants as newest
-use Rattle.viper.specs.Phases.{lacks, step-unfitted}
+use Rattle.step.specs.Phases.{lacks, step-unfitted}
 use Rattle.viper.specs.Refusals.{lowest, if-done}
 use Rattle.viper.specs.declared.Refusal.{Refusal}
 use Rattle.viper.specs.declared.Refusal.the-variants.{PTooLarge, StoreTooLong, CountTooLarge, Stopped, Unfitted, TrailFull, NothingInUse, BrokenRecord}

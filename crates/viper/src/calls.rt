@@ -4,18 +4,18 @@ use crate::Outcome;
 use crate::Refusal;
 use crate::RunAnswer;
 use crate::RunOutcome;
-use crate::finish::Stepped;
-use crate::finish::changed_to;
-use crate::finish::put_word;
-use crate::finish::word_at;
-use crate::phases::choose;
-use crate::phases::step_once;
 use crate::views::is_fitted;
 use machine::Ending;
 use machine::Machine;
 use machine::MainAddress;
 use machine::Place;
 use machine::PortNumber;
+use step::finish::Stepped;
+use step::finish::changed_to;
+use step::finish::put_word;
+use step::finish::word_at;
+use step::phases::choose;
+use step::phases::step_once;
 use trail::Added;
 use trail::Newest;
 use trail::OldValues;
@@ -32,7 +32,8 @@ ghost use Rattle.viper.specs.Runs.{over-and-over, run-outcome};
 ghost use Rattle.viper.specs.TakingBack.{back-outcome};
 ghost use Rattle.viper.specs.Told.{bench, told, run-told};
 ghost use Rattle.viper.specs.declared.Answer.the-variants.{Refused};
-ghost use Rattle.viper.specs.Judging.{first-refusals, Lawful, ran-told, answer-by};
+ghost use Rattle.step.specs.Lawful.{Lawful};
+ghost use Rattle.viper.specs.Judging.{first-refusals, ran-told, answer-by};
 
 // Refusals 1 to 3, by P, the words of both stores, the bytes of the trail and those in use.
 fn judge(p: u32, main: usize, ports: usize, trail: usize, used: usize) -> Answer

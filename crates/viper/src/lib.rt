@@ -2,8 +2,6 @@
 // The machine goes in and comes back by value; the two stores and the trail are lent. No call has a `requires`: bad input is refused,
 // and a refused call changes nothing.
 pub mod calls;
-pub mod finish;
-pub mod phases;
 pub mod views;
 
 use machine::Ending;

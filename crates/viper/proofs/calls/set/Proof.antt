@@ -9,9 +9,9 @@ use Rattle.machine.specs.Held.{ram}
 use Rattle.trail.specs.declared.Added.the-variants as added
 use Rattle.trail.proofs.Marks.{old-values-good}
 use Rattle.viper.specs.Operations.{set-word}
-use Rattle.viper.specs.Phases as phases
-use Rattle.viper.proofs.Stores.{changing-addressed, changing-value, finish-full, finish-done}
-use Rattle.viper.proofs.Completing.{written-over}
+use Rattle.step.specs.Phases as phases
+use Rattle.step.proofs.Stores.{changing-addressed, changing-value, finish-full, finish-done}
+use Rattle.step.proofs.Completing.{written-over}
 use Rattle.viper.proofs.Exits.{passed, refused-first, set-unfitted, set-fitted, set-full, set-done}
 use borrow.Author.Needs.{needs}
 use Rattle.viper.proofs.calls.set.Statement.{statement}

@@ -1,0 +1,93 @@
+-- What the last phase does with a change: its record is added to the trail, and then its word is written.
+-- Assumes nothing.
+use Prim.Native.Nat.{ℕ, _<_, _^_}
+use mathlib.Core.Path.{_≡_}
+use mathlib.Core.Bool.{true, cond}
+use mathlib.Core.List.{List}
+use lib.Dec.{eqb}
+use Rattle.report.specs.AnnexA.{Mem}
+use Rattle.report.specs.Parts.{Where, fitted, word-at, with-word}
+use Rattle.machine.specs.Held.{where-of}
+use Rattle.machine.specs.declared.Machine.{Machine}
+use Rattle.trail.specs.Records.{old-values, record-bytes, added}
+use Rattle.trail.specs.declared.Word.{Word}
+use Rattle.trail.specs.declared.Word.the-variants.{Kept, Changed}
+use Rattle.trail.specs.declared.Added.{Added}
+use Rattle.trail.specs.declared.Added.the-variants.{Used, Full}
+use Rattle.machine.specs.Held.{state}
+use Rattle.machine.specs.declared.Place.{Place}
+use Rattle.step.specs.declared.finish.Stepped.{Stepped}
+use Rattle.step.specs.declared.finish.Stepped.the-variants as stepped
+use Rattle.step.specs.Phases as written
+use Rattle.step.specs.Phases.{Written, Change, Plan, Go, Lacking, planned}
+
+-- A place that a board has, at an address of twenty bits.
+pub record Fitted (ram : Mem) (q : Where) : Type 0 where
+  pub has : fitted ram q ≡ true
+  pub low : q .1 < 2 ^ 20
+
+abbrev pub Addressed : Mem → Written → Type 0
+Addressed ram written.Nothing = Unit {0}
+Addressed ram (written.Word q v) = Fitted ram (where-of q)
+
+-- A word with this old value, once v is written over it.
+abbrev pub changed-to : Place → ℕ → ℕ → Word
+changed-to q old v = cond (eqb old v) Kept (Changed q old)
+
+-- The word that changes, with its old value.
+abbrev pub changing : Mem → Written → Word
+changing ram written.Nothing = Kept
+changing ram (written.Word q v) = changed-to q (word-at ram (where-of q)) v
+
+-- The stores with the word written.
+abbrev pub rewritten : Mem → Written → Mem
+rewritten ram written.Nothing = ram
+rewritten ram (written.Word q v) = with-word ram (where-of q) v
+
+-- The answer, the stores and the trail.
+pub record Finish : Type 0 where
+  pub answered : Added
+  pub stores : Mem
+  pub trail : List ℕ
+
+abbrev pub finishing : Added × List ℕ → Mem → Written → Finish
+finishing (Full, t) ram w = record { answered = Full; stores = ram; trail = t }
+finishing (Used n, t) ram w = record { answered = Used n; stores = rewritten ram w; trail = t }
+
+unfoldable pub finished : Machine → Change → Mem → List ℕ → ℕ → Finish
+finished m c ram trail used =
+    finishing (added trail used (record-bytes (old-values m (c .machine) (changing ram (c .written))))) ram (c .written)
+
+-- What `finish` answered and left.
+abbrev pub left : Added → Mem → List ℕ → Finish
+left a ram t = record { answered = a; stores = ram; trail = t }
+
+-- ---- what became of a step
+
+-- The answer, the stores and the trail.
+pub record End : Type 0 where
+  pub answer : Stepped
+  pub stores : Mem
+  pub trail : List ℕ
+
+abbrev pub ended : Stepped → Mem → List ℕ → End
+ended a ram t = record { answer = a; stores = ram; trail = t }
+
+abbrev pub answered-by : Machine → Added → Stepped
+answered-by m Full = stepped.Full
+answered-by m (Used n) = stepped.Done m n
+
+abbrev pub ended-by : Machine → Finish → End
+ended-by m f = ended (answered-by m (f .answered)) (f .stores) (f .trail)
+
+-- The change finished.
+abbrev pub completed : Machine → Change → Mem → List ℕ → ℕ → End
+completed m c ram t used = ended-by (c .machine) (finished m c ram t used)
+
+abbrev pub by-plan : Machine → Mem → List ℕ → ℕ → Plan → End
+by-plan m ram t used Lacking = ended stepped.Unfitted ram t
+by-plan m ram t used (Go c) = completed m c ram t used
+
+-- One step.
+abbrev pub once : Machine → Mem → List ℕ → ℕ → End
+once m ram t used = by-plan m ram t used (planned (state m ram))
