@@ -3,7 +3,7 @@
 use Prim.Native.Nat.{ℕ, zero, suc, _+_, _*_, _/_, _^_, _<_, _≤_}
 use mathlib.Core.Path.{_≡_, refl}
 use mathlib.Core.Bool.{Bool, true, false}
-use mathlib.Core.List.{[], _∷_}
+use mathlib.Core.List.{[], _∷_, _++_}
 use native.Mathlib.Omega.{arith}
 use lib.Dec.{ltb}
 use lib.ListN.{length, length-append}
@@ -14,6 +14,7 @@ use Rattle.trail.specs.declared.OldValues.{OldValues}
 use Rattle.trail.specs.declared.Word.{Word}
 use Rattle.trail.specs.Numbers.{groups, bytes-if, GoodIf}
 use Rattle.trail.specs.Records.{marked, body, record-bytes, Good, differs, word-changed, old-values}
+use Rattle.trail.specs.OneChange.{one-value}
 use Rattle.trail.proofs.NumbersReadBack.{cap, groups-one, groups-more}
 use Rattle.trail.proofs.Marks.{bit, marks, Sound, old-values-good}
 
@@ -88,6 +89,32 @@ pub record-length : {places : ℕ} {o : OldValues} → places ≤ 2 ^ 21 → Goo
     → length (record-bytes o) ≤ 5 + 5 * (BV (marked 1 (o .marks)) + BV (marked 2 (o .marks)) + BV (marked 4 (o .marks))) + 8 * BV (marked 8 (o .marks))
 unfolding record-bytes
 record-length {places} {o} h g = simp length-append (omega (arith, sizes h g))
+
+-- ---- the record of one value: the marks, at most three bytes each for P and a word's place, five for the value, and L
+
+if-place : (t : Bool) (n : ℕ) → n < 2 ^ 21 → length (bytes-if t n) ≤ 3
+if-place true n h = groups-few 2 n (omega arith)
+if-place false n h = omega arith
+
+pub record ValueSizes (marks p place v : ℕ) : Type 0 where
+  pub of-p : length (groups p) ≤ 3
+  pub of-place : length (bytes-if (marked 8 marks) place) ≤ 3
+  pub of-value : length (groups v) ≤ 5
+
+pub value-sizes : (marks : ℕ) {p place v : ℕ} → p < 2 ^ 20 → place < 2 ^ 21 → v < 2 ^ 32 → ValueSizes marks p place v
+value-sizes marks {p} {place} {v} hp hq hv =
+    record {
+      of-p = groups-few 2 p (omega arith);
+      of-place = if-place (marked 8 marks) place hq;
+      of-value = groups-few 4 v (omega arith);
+    }
+
+pub value-fits : {marks p place v : ℕ} → ValueSizes marks p place v → length (one-value marks p place v) ≤ 28
+unfolding one-value
+value-fits {marks} {p} {place} {v} s =
+    let q = bytes-if (marked 8 marks) place in
+    let r = groups p ++ (q ++ groups v) in
+    omega (arith, s, length-append r (length (marks ∷ r) ∷ []), length-append (groups p) (q ++ groups v), length-append q (groups v))
 
 -- ---- the record of an operation
 

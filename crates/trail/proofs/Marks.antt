@@ -65,7 +65,7 @@ good-if : (t : Bool) (bound n : ℕ) → n < bound → GoodIf t bound (cond t n 
 good-if true bound n h = h
 good-if false bound n h = refl
 
-good-place : (w : Word) → Addressed w → GoodIf (word-changed w) (2 ^ 21) (word-place w)
+pub good-place : (w : Word) → Addressed w → GoodIf (word-changed w) (2 ^ 21) (word-place w)
 good-place Kept h = refl
 good-place (Changed (Main n) v) h = omega arith
 good-place (Changed (Port n) v) h = omega arith

@@ -45,9 +45,12 @@ module _ {old : List ℕ} {at n : ℕ} {new : List ℕ} {left next : ℕ} (g : P
         size = length-set new next left ∙ g .size;
       }
 
--- Nothing put; and one thing put after another.
+-- Nothing put; one byte put first; and one thing put after another.
 pub put-none : (at : ℕ) (b : List ℕ) → Put at [] b b at
 put-none at b = record { place = omega arith; bytes = sym (append-nil (take at b)); size = refl }
+
+pub put-first : (b : List ℕ) (m : ℕ) → 0 < length b → Put 0 (m ∷ []) b (set b 0 m) 1
+put-first b m h = record { place = refl; bytes = take-suc-set b 0 m h; size = length-set b 0 m }
 
 pub put-then : {at m n : ℕ} {s t b₀ b₁ b₂ : List ℕ} → Put at s b₀ b₁ m → Put m t b₁ b₂ n → Put at (s ++ t) b₀ b₂ n
 put-then {at} {m} {n} {s} {t} {b₀} {b₁} {b₂} e f =

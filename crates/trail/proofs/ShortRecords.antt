@@ -1,43 +1,32 @@
--- The records of steps that change no word and at most one register, where their numbers have one or two groups: their bytes one by one.
+-- The records of steps, which change at most one register or one word: their bytes, and those of the short ones one by one.
 -- Assumes nothing.
 use Prim.Native.Nat.{ℕ, _+_, _*_, _/_, _%_, _<_, _≤_}
-use mathlib.Core.Path.{_≡_, refl}
-use mathlib.Core.Bool.{Bool, true, false, cond}
+use mathlib.Core.Path.{_≡_}
+use mathlib.Core.Bool.{Bool, true, false}
 use mathlib.Core.List.{List, [], _∷_, _++_, append-nil}
 use native.Mathlib.Omega.{arith}
 use lib.Dec.{eqb}
-use lib.ListN.{length, take}
+use lib.ListN.{take}
 use Rattle.report.specs.AnnexA.{BV}
 use Rattle.machine.specs.declared.Place.{Place}
 use Rattle.trail.specs.declared.OldValues.{OldValues}
 use Rattle.trail.specs.declared.Word.the-variants.{Kept, Changed}
 use Rattle.trail.specs.Numbers.{groups}
 use Rattle.trail.specs.Records.{record-bytes, marks-by, place-number}
-use Rattle.trail.specs.OneChange.{five, registers-kept, register-changed, Register, is-a, is-x, is-y}
+use Rattle.trail.specs.OneChange.{closed, one-value, five, registers-kept, register-changed, Register, is-a, is-x, is-y}
 use Rattle.trail.proofs.NumbersReadBack.{groups-one, groups-more}
 use Rattle.trail.proofs.Marks.{bits}
 
 groups-two : (n : ℕ) → 128 ≤ n → n < 16384 → groups n ≡ (128 + n % 128) ∷ n / 128 ∷ []
 groups-two n h l = rw (groups-more n h, groups-one (n / 128) (omega arith))
 
--- Old values that are the same number by number are the same.
+-- ---- no register and no word
+
 abbrev pub held : ℕ → ℕ → ℕ → ℕ → ℕ → ℕ → ℕ → OldValues
 held marks p a x y place value = record { marks = marks; p = p; a = a; x = x; y = y; place = place; value = value }
 
-held-same : {m m′ p a a′ x x′ y y′ q q′ v : ℕ} → m ≡ m′ → a ≡ a′ → x ≡ x′ → y ≡ y′ → q ≡ q′ → held m p a x y q v ≡ held m′ p a′ x′ y′ q′ v
-held-same e₁ e₂ e₃ e₄ e₅ = rw (e₁, e₂, e₃, e₄, e₅)
-
 pub as-kept : {k l : ℕ} (p : ℕ) (b s : Bool) → k ≡ 16 * BV b → l ≡ 32 * BV s → held (k + l) p 0 0 0 0 0 ≡ registers-kept p b s Kept
-as-kept p b s e f = held-same {m′ = marks-by false false false false b s} (omega arith) refl refl refl refl
-
-pub as-word : {k l q : ℕ} (p : ℕ) (b s : Bool) (place : Place) (old : ℕ) → k ≡ 16 * BV b → l ≡ 32 * BV s → q ≡ place-number place → held (8 + (k + l)) p 0 0 0 q old ≡ registers-kept p b s (Changed place old)
-as-word p b s place old e f g = held-same {m′ = marks-by false false false true b s} (omega arith) refl refl refl g
-
--- A record, by the bytes before L.
-abbrev closed : List ℕ → List ℕ
-closed s = s ++ (length s ∷ [])
-
--- ---- no register and no word
+as-kept {k} {l} p b s e f = let m : k + l ≡ marks-by false false false false b s = omega arith in rw m
 
 kept-bytes : (p : ℕ) (b s : Bool) → record-bytes (registers-kept p b s Kept) ≡ closed (marks-by false false false false b s ∷ groups p)
 unfolding record-bytes
@@ -58,11 +47,6 @@ pub register-marks : {w : ℕ} → Register w → (b s : Bool) → marks-by (eqb
 register-marks is-a b s = omega arith
 register-marks is-x b s = omega arith
 register-marks is-y b s = omega arith
-
-pub as-register : {w k l a x y : ℕ} → Register w → (p : ℕ) (b s : Bool) (old : ℕ) → k ≡ 16 * BV b → l ≡ 32 * BV s → a ≡ cond (eqb w 1) old 0 → x ≡ cond (eqb w 2) old 0 → y ≡ cond (eqb w 4) old 0 → held (w + (k + l)) p a x y 0 0 ≡ register-changed w p b s old
-as-register {w} r p b s old e f g h i =
-    let m = register-marks r b s in
-    held-same {m′ = marks-by (eqb w 1) (eqb w 2) (eqb w 4) false b s} (omega arith) g h i refl
 
 pub register-few : {w : ℕ} → Register w → w ≤ 4
 register-few is-a = omega arith
@@ -86,3 +70,20 @@ changed-one r p b s old e l m h o = rw (e, l, m, changed-bytes r p b s old, grou
 
 pub changed-two : {w : ℕ} → Register w → (p : ℕ) (b s : Bool) (old : ℕ) {bytes : List ℕ} {n k : ℕ} → bytes ≡ five k (128 + p % 128) (p / 128) old 4 → n ≡ 5 → k ≡ w + (16 * BV b + 32 * BV s) → 128 ≤ p → p < 16384 → old < 128 → take n bytes ≡ record-bytes (register-changed w p b s old)
 changed-two r p b s old e l m h t o = rw (e, l, m, changed-bytes r p b s old, groups-two p h t, groups-one old o, register-marks r b s)
+
+pub as-register : {w k l : ℕ} → Register w → (p : ℕ) (b s : Bool) (old : ℕ) → k ≡ 16 * BV b → l ≡ 32 * BV s
+    → one-value (w + (k + l)) p 0 old ≡ record-bytes (register-changed w p b s old)
+unfolding one-value
+as-register {w} {k} {l} r p b s old e f =
+    let m : w + (k + l) ≡ marks-by (eqb w 1) (eqb w 2) (eqb w 4) false b s = omega (arith, register-marks r b s) in
+    rw (m, changed-bytes r p b s old, bits (eqb w 1) (eqb w 2) (eqb w 4) false b s .word)
+
+-- ---- one word
+
+pub as-word : {k l q : ℕ} (p : ℕ) (b s : Bool) (place : Place) (old : ℕ) → k ≡ 16 * BV b → l ≡ 32 * BV s → q ≡ place-number place
+    → one-value (8 + (k + l)) p q old ≡ record-bytes (registers-kept p b s (Changed place old))
+unfolding one-value record-bytes
+as-word {k} {l} p b s place old e f g =
+    let m = bits false false false true b s in
+    let n : 8 + (k + l) ≡ marks-by false false false true b s = omega arith in
+    rw (n, g, m .a, m .x, m .y, m .word, groups-one (marks-by false false false true b s) (omega (arith, m .few)))

@@ -1,15 +1,16 @@
 -- The old values of an operation that changes at most one register or one word, as every step does.
--- That they are its `old-values` is in the crate viper, proofs/Completing.antt.
+-- That they are its `old-values` is in the crate step, proofs/Completing.antt.
 -- Assumes nothing.
 use Prim.Native.Nat.{ℕ}
 use mathlib.Core.Bool.{Bool, false, cond}
-use mathlib.Core.List.{List, _∷_}
+use mathlib.Core.List.{List, [], _∷_, _++_}
 use lib.Dec.{eqb}
-use lib.ListN.{replicate}
+use lib.ListN.{length, replicate}
 use Rattle.trail.specs.declared.OldValues.{OldValues}
 use Rattle.trail.specs.declared.Word.{Word}
 use Rattle.trail.specs.declared.Word.the-variants.{Kept}
-use Rattle.trail.specs.Records.{marks-by, word-changed, word-place, word-value}
+use Rattle.trail.specs.Numbers.{groups, bytes-if}
+use Rattle.trail.specs.Records.{marked, marks-by, word-changed, word-place, word-value}
 
 -- By which of A, X and Y changed, and their old value.
 abbrev pub one-change : Bool → Bool → Bool → ℕ → ℕ → Bool → Bool → Word → OldValues
@@ -37,6 +38,14 @@ pub data Register : ℕ → Type 0 where
 -- One register changed, and no word.
 abbrev pub register-changed : ℕ → ℕ → Bool → Bool → ℕ → OldValues
 register-changed w p b stop old = one-change (eqb w 1) (eqb w 2) (eqb w 4) old p b stop Kept
+
+-- A record, by the bytes before L.
+abbrev pub closed : List ℕ → List ℕ
+closed s = s ++ (length s ∷ [])
+
+-- The record of one register or one word: the marks, which are one byte; P; the word's place, if one is marked; the value.
+unfoldable pub one-value : ℕ → ℕ → ℕ → ℕ → List ℕ
+one-value marks p place v = closed (marks ∷ (groups p ++ (bytes-if (marked 8 marks) place ++ groups v)))
 
 -- Five bytes at the head of a record's array.
 abbrev pub five : ℕ → ℕ → ℕ → ℕ → ℕ → List ℕ

@@ -14,7 +14,7 @@ ghost use lib.ListN.{length, take};
 ghost use Rattle.report.specs.AnnexA.{BV};
 ghost use Rattle.machine.specs.Held.{where-of};
 ghost use Rattle.trail.specs.Numbers.{Put};
-ghost use Rattle.trail.specs.OneChange.{five, registers-kept, register-changed, Register};
+ghost use Rattle.trail.specs.OneChange.{five, one-value, registers-kept, register-changed, Register};
 ghost use Rattle.trail.specs.declared.Word.the-variants.{Kept, Changed};
 ghost use Rattle.trail.specs.Records.{Addressed, Good, added, old-values, place-number, record-bytes, word-changed, word-place, word-value};
 
@@ -147,7 +147,7 @@ pub fn add(trail: &mut [u8], used: usize, o: OldValues) -> Added
     copy(trail, used, &r.bytes, r.len)
 }
 
-// The records of steps, most of which change no word and at most one register. What they add is what `add` would; the short ones are made
+// The records of steps, which change at most one register or one word. What they add is what `add` would; most are short, and those are made
 // without a loop.
 
 // A record of at most five bytes.
@@ -189,6 +189,32 @@ pub fn add_flags(trail: &mut [u8], used: usize, p: u32, b: bool, stop: bool) -> 
     add(trail, used, o)
 }
 
+// Puts the bytes of a record with one value, L last, and answers their count.
+fn fill_value(bytes: &mut [u8; 28], marks: u32, p: u32, place: u32, v: u32) -> usize
+    requires { ⌜ (marks < 64) × (p < 2 ^ 20) × (place < 2 ^ 21) × (length (now bytes) ≡ 28) ⌝ }
+    ensures { λ n. ⌜ Put 0 (one-value marks p place v) (now (bytes .entry)) (now (bytes .exit)) n ⌝ }
+{
+    bytes[0] = marks as u8;
+    let at_place = put_number(bytes, 1, p);
+    let at_value = put_if(marks / 8 % 2 == 1, bytes, at_place, place);
+    let n = put_number(bytes, at_value, v);
+    bytes[n] = n as u8;
+    n + 1
+}
+
+// Adds a record with one value: the marks, P, the word's place if one is marked, and the value.
+fn add_value(trail: &mut [u8], used: usize, marks: u32, p: u32, place: u32, v: u32) -> Added
+    requires { ⌜ (used ≤ length (now trail)) × (marks < 64) × (p < 2 ^ 20) × (place < 2 ^ 21) ⌝ }
+    ensures { λ r. ⌜ (r, now (trail .exit)) ≡ added (now (trail .entry)) used (one-value marks p place v) ⌝ }
+{
+    let mut r = Record {
+        bytes: [0; 28],
+        len: 0,
+    };
+    r.len = fill_value(&mut r.bytes, marks, p, place, v);
+    copy(trail, used, &r.bytes, r.len)
+}
+
 // Adds the record of an operation that changed one register, whose mark weighs w, and no word.
 pub fn add_register(
     trail: &mut [u8],
@@ -220,16 +246,7 @@ pub fn add_register(
             return copy(trail, used, &r.bytes, r.len);
         }
     }
-    let o = OldValues {
-        marks,
-        p,
-        a: value_if(w == 1, old),
-        x: value_if(w == 2, old),
-        y: value_if(w == 4, old),
-        place: 0,
-        value: 0,
-    };
-    add(trail, used, o)
+    add_value(trail, used, marks, p, 0, old)
 }
 
 // Adds the record of an operation that changed one word and no register.
@@ -245,14 +262,12 @@ pub fn add_word(
     requires { ⌜ (used ≤ length (now trail)) × (p < 2 ^ 20) × (where-of place .1 < 2 ^ 20) ⌝ }
     ensures { λ r. ⌜ (r, now (trail .exit)) ≡ added (now (trail .entry)) used (record-bytes (registers-kept p b stop (Changed place old))) ⌝ }
 {
-    let o = OldValues {
-        marks: 8 + (weight(b, 16) + weight(stop, 32)),
+    add_value(
+        trail,
+        used,
+        8 + (weight(b, 16) + weight(stop, 32)),
         p,
-        a: 0,
-        x: 0,
-        y: 0,
-        place: place_number(place),
-        value: old,
-    };
-    add(trail, used, o)
+        place_number(place),
+        old,
+    )
 }

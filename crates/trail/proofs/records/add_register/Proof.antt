@@ -1,14 +1,9 @@
 -- `add_register` meets its contract: the short records are those that `add` would make.
 -- Assumes nothing.
-use Prim.Native.Nat.{_^_}
-use mathlib.Core.Path.{sym, subst, ap, _∙_}
+use mathlib.Core.Path.{ap, _∙_}
 use native.Mathlib.Omega.{arith}
 use borrow.Author.Needs.{needs}
-use lib.Dec.{eqb}
-use Rattle.trail.specs.declared.OldValues.{OldValues}
-use Rattle.trail.specs.declared.Word.the-variants.{Kept}
-use Rattle.trail.specs.Records.{added, record-bytes, Good}
-use Rattle.trail.proofs.Marks.{one-change-good}
+use Rattle.trail.specs.Records.{added}
 use Rattle.trail.proofs.ShortRecords.{as-register, register-few, changed-one, changed-two}
 use Rattle.trail.proofs.records.add_register.Statement.{statement}
 use Rattle.trail.proofs.records.add_register.Tie as tie
@@ -81,31 +76,22 @@ returns-2 c =
     c .before .before .copy2 .ensures
     ∙ ap (added _ _) (changed-two (c .before .before .before .before .before .before .before .before .before .before .before .before .before .pre .2) (a .p) (a .b) (a .stop) (a .old) (e .0) (e .1) (omega (arith, c .before .before .before .before .before .before .before .before .before .before .before .weight .ensures .0, c .before .before .before .before .before .before .before .before .before .before .weight2 .ensures .0)) (omega arith) (omega arith) (omega arith))
 
-value-if-requires : tie.Need-value-if-requires
-value-if-requires c κs = search needs
-
-value-if-requires-2 : tie.Need-value-if-requires-2
-value-if-requires-2 c κs = search needs
-
-value-if-requires-3 : tie.Need-value-if-requires-3
-value-if-requires-3 c κs = search needs
-
-add-requires : tie.Need-add-requires
-add-requires c κs =
-    let s = c .before .before .before .before .before .before .before .before in
-    let a = s .args in
-    let e = as-register (s .pre .2) (a .p) (a .b) (a .stop) (a .old) (c .before .before .before .before .before .before .weight .ensures .0) (c .before .before .before .before .before .weight2 .ensures .0) (c .before .before .before .value-if .ensures) (c .before .before .value-if2 .ensures) (c .before .value-if3 .ensures) in
-    (omega arith, subst (Good (2 ^ 21)) (sym e) (one-change-good (eqb (a .w) 1) (eqb (a .w) 2) (eqb (a .w) 4) {old = a .old} (a .b) (a .stop) Kept (omega arith) (omega arith) tt (omega arith)))
+add-value-requires : tie.Need-add-value-requires
+add-value-requires c κs =
+    let s = c .before .before .before .before .before in
+    omega (arith, s .pre, register-few (s .pre .2), c .before .before .before .weight .ensures, c .before .before .weight2 .ensures)
 
 same-length-3 : tie.Need-same-length-3
 same-length-3 c = search needs
 
 returns-3 : tie.Need-returns-3
 returns-3 c =
-    let s = c .before .before .before .before .before .before .before .before .before .before .before in
+    let s = c .before .before .before .before .before .before .before .before in
     let a = s .args in
-    let e = as-register (s .pre .2) (a .p) (a .b) (a .stop) (a .old) (c .before .before .before .before .before .before .before .before .before .weight .ensures .0) (c .before .before .before .before .before .before .before .before .weight2 .ensures .0) (c .before .before .before .before .before .before .value-if .ensures) (c .before .before .before .before .before .value-if2 .ensures) (c .before .before .before .before .value-if3 .ensures) in
-    c .before .before .add .ensures ∙ ap (λ (o : OldValues). added (a .trail .now) (a .used) (record-bytes o)) e
+    let k = c .before .before .before .before .before .before .weight .ensures in
+    let l = c .before .before .before .before .before .weight2 .ensures in
+    c .before .before .add-value .ensures
+    ∙ ap (added _ _) (as-register (s .pre .2) (a .p) (a .b) (a .stop) (a .old) (k .0) (l .0))
 
 pub add-register-spec : {M : Type 1} → statement M
 add-register-spec =
@@ -131,9 +117,6 @@ add-register-spec =
     copy-requires-2
     same-length-2
     returns-2
-    value-if-requires
-    value-if-requires-2
-    value-if-requires-3
-    add-requires
+    add-value-requires
     same-length-3
     returns-3)
