@@ -13,12 +13,11 @@ use Rattle.instruction.specs.Classes.{class-by, class-of-word}
 unfoldable pub decided : ℕ → Bool → Bool → Bool → Bool → Part
 decided k twelve high far b =
     cond high halts
+    (cond (leb 7 k) (cond (eqb k 8 && not b) skips (cond (eqb k 9 && b) skips (cond far halts computes)))
+    (cond (leb 4 k) (cond far (cond twelve computes halts) computes)
     (cond (eqb k 1) halts
-    (cond (eqb k 8 && not b) skips
-    (cond (eqb k 9 && b) skips
-    (cond far (cond (leb k 3) halts (cond twelve computes halts))
-    (cond (eqb k 0) compares
-    (cond (leb k 3) writes computes))))))
+    (cond far halts
+    (cond (eqb k 0) compares writes)))))
 
 -- document 01's order, by the fields
 abbrev by-fields : Bool → Bool → Bool → ℕ → ℕ → ℕ → ℕ → Part

@@ -10,7 +10,7 @@ ghost use Rattle.report.specs.Section3.{REG, OFFSET};
 ghost use Rattle.report.specs.Parts.{part-by};
 ghost use Rattle.instruction.specs.Fields.{Fielded};
 ghost use Rattle.instruction.specs.Classes.{Classified, class-of-word};
-ghost use Rattle.instruction.specs.PartOf.{part-of};
+ghost use Rattle.instruction.specs.PartOf.{part-of, Classed};
 
 // The fields of a word (table 1). csf stands in its class.
 pub struct Fields {
@@ -39,11 +39,10 @@ pub fn register(rsf: u32, a: u32, x: u32, y: u32, n: u32) -> u32
     requires { ⌜ n < 2 ^ 20 ⌝ }
     ensures { λ r. ⌜ r ≡ REG (rsf, a, x, y, n) ⌝ }
 {
-    match rsf {
-        0 => a,
-        1 => x,
-        2 => y,
-        _ => n,
+    if rsf < 2 {
+        if rsf < 1 { a } else { x }
+    } else {
+        if rsf < 3 { y } else { n }
     }
 }
 
@@ -61,45 +60,52 @@ pub fn address(msf: u32, addr: u32, x: u32, y: u32) -> u32
 }
 
 // The part of document 01's order that a word comes to on a machine that is not stopped.
+// Its part 6 is two here: Computes is a result for A, X or Y, and Jumps one for P.
 pub enum Part {
     Halts,
     Compares,
     Writes,
     Skips,
     Computes,
+    Jumps,
 }
 
-// Decides the part by the word, its class, P, the whole address and B.
+// Decides the part by the word, its class, P, the whole address and B. The class tells where a result goes.
 pub fn decide(w: u32, class: u8, p: u32, address: u32, b: bool) -> Part
     requires { ⌜ class ≡ class-of-word w ⌝ }
-    ensures { λ r. ⌜ part-of r ≡ part-by w p address b false ⌝ }
+    ensures { λ r. ⌜ (part-of r ≡ part-by w p address b false) × Classed r class ⌝ }
 {
     if p == 0xF_FFFF {
         return Part::Halts;
     }
+    if class >= 7 {
+        if (class == 8) & !b {
+            return Part::Skips;
+        }
+        if (class == 9) & b {
+            return Part::Skips;
+        }
+        if address >= 0x10_0000 {
+            return Part::Halts; // a jump is no shift
+        }
+        return Part::Jumps;
+    }
+    if class >= 4 {
+        if address >= 0x10_0000 {
+            if w / 0x10_0000 % 16 != 12 {
+                return Part::Halts;
+            }
+        }
+        return Part::Computes;
+    }
     if class == 1 {
         return Part::Halts;
     }
-    if (class == 8) & !b {
-        return Part::Skips;
-    }
-    if (class == 9) & b {
-        return Part::Skips;
-    }
-    if address >= 0x10_0000 {
-        if class < 4 {
-            return Part::Halts;
-        }
-        if w / 0x10_0000 % 16 != 12 {
-            return Part::Halts;
-        }
-        return Part::Computes;
+    if address >= 0x10_0000 { // a comparison or a write
+        return Part::Halts;
     }
     if class == 0 {
         return Part::Compares;
     }
-    if class < 4 {
-        return Part::Writes;
-    }
-    Part::Computes
+    Part::Writes
 }

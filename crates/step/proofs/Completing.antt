@@ -4,14 +4,14 @@
 use mathlib.Core.Path.{_≡_, refl, sym, ap, _∙_}
 use mathlib.Core.Bool.{Bool, true, false, cond, _||_, true≢false}
 use mathlib.Core.List.{List}
-use Prim.Native.Nat.{ℕ, _+_, _%_, _^_}
+use Prim.Native.Nat.{ℕ, _+_, _%_, _^_, _<_, _≤_}
 use native.Mathlib.Omega.{arith}
-use lib.Dec.{eqb, ltb, leb}
+use lib.Dec.{eqb}
 use lib.ListN.{length}
-use borrow.Author.Tests.{eq-eqb, ne-eqb, ltb-true, ltb-false, le-leb, lt-leb}
+use borrow.Author.Tests.{eq-eqb, ne-eqb}
 use Rattle.report.specs.AnnexA.{Mem}
 use Rattle.report.specs.Section3.{Triple, COMPARE, ALU}
-use Rattle.report.specs.Parts.{fitted, word-at, Part, halts, compares, writes, skips, computes, InRange}
+use Rattle.report.specs.Parts.{fitted, word-at, to-p, Part, halts, compares, writes, skips, computes, InRange}
 use Rattle.machine.specs.Held.{ram, state, where-of, place-by}
 use Rattle.machine.specs.declared.Machine.{Machine}
 use Rattle.machine.specs.declared.Place.{Place}
@@ -23,7 +23,10 @@ use Rattle.trail.specs.declared.Added.the-variants.{Used, Full}
 use Rattle.trail.specs.declared.Word.{Word}
 use Rattle.trail.specs.declared.Word.the-variants.{Kept}
 use Rattle.step.specs.declared.finish.Stepped.the-variants as stepped
-use Rattle.instruction.specs.PartOf.{part-of}
+use Rattle.instruction.specs.PartOf.{part-of, Classed}
+use Rattle.instruction.specs.Classes.{class-of-word}
+use Rattle.instruction.specs.declared.Part.the-variants.{Writes, Computes, Jumps}
+use Rattle.instruction.proofs.Destinations.{write-class, register-class, jump-class, jump-to-p, jump-function}
 use Rattle.instruction.specs.declared.Fields.{Fields}
 use Rattle.step.specs.declared.phases.Decoded.{Decoded}
 use Rattle.step.specs.declared.phases.Fetched.the-variants as fetch
@@ -88,30 +91,29 @@ module _ (m : Machine) (f : Fields) (n v : ℕ) (b s : Bool) where
   unfolding delivered
   to-a h = rw (eq-eqb (f .dsf) 0 h)
 
-  pub to-x : (f .dsf ≡ 0 → ⊥) → f .dsf ≡ 1 → delivered m f n (v, b, s) ≡ with-x m v n b s
+  pub to-x : f .dsf ≡ 1 → delivered m f n (v, b, s) ≡ with-x m v n b s
   unfolding delivered
-  to-x h k = rw (ne-eqb (f .dsf) 0 h, eq-eqb (f .dsf) 1 k)
+  to-x h = rw h
 
-  pub to-y : (f .dsf ≡ 0 → ⊥) → (f .dsf ≡ 1 → ⊥) → (eqb (f .dsf) 2 || eqb (f .fsf) 1) ≡ true → {y p : ℕ} → y ≡ cond (eqb (f .dsf) 2) v n → p ≡ cond (eqb (f .dsf) 2) n (v % 2 ^ 20)
-      → delivered m f n (v, b, s) ≡ with-y m y p b s
+  pub to-y : f .dsf ≡ 2 → delivered m f n (v, b, s) ≡ with-y m v n b s
   unfolding delivered
-  to-y h k e {y} {p} hy hp = rw (ne-eqb (f .dsf) 0 h, ne-eqb (f .dsf) 1 k, hy, hp) (go (eqb (f .dsf) 2) (eqb (f .fsf) 1) e)
-    where
-      go : (t u : Bool) → (t || u) ≡ true
-          → cond t (with-y m v n b s) (cond u (with-y m n (v % 2 ^ 20) b s) (with-flags-of m (v % 2 ^ 20) b s)) ≡ with-y m (cond t v n) (cond t n (v % 2 ^ 20)) b s
-      go true u q = refl
-      go false true q = refl
-      go false false q = absurd (true≢false (sym q))
+  to-y h = rw h
 
-  pub to-p : (f .dsf ≡ 0 → ⊥) → (f .dsf ≡ 1 → ⊥) → (eqb (f .dsf) 2 || eqb (f .fsf) 1) ≡ false → delivered m f n (v, b, s) ≡ with-flags-of m (v % 2 ^ 20) b s
-  unfolding delivered
-  to-p h k e = rw (ne-eqb (f .dsf) 0 h, ne-eqb (f .dsf) 1 k) (go (eqb (f .dsf) 2) (eqb (f .fsf) 1) e)
-    where
-      go : (t u : Bool) → (t || u) ≡ false
-          → cond t (with-y m v n b s) (cond u (with-y m n (v % 2 ^ 20) b s) (with-flags-of m (v % 2 ^ 20) b s)) ≡ with-flags-of m (v % 2 ^ 20) b s
-      go true u q = absurd (true≢false q)
-      go false true q = absurd (true≢false q)
-      go false false q = refl
+  module _ (h : 3 ≤ f .dsf) where
+    pub calls : f .fsf ≡ 1 → delivered m f n (v, b, s) ≡ with-y m n (v % 2 ^ 20) b s
+    unfolding delivered
+    calls k = rw (ne-eqb (f .dsf) 0 (λ z. omega arith), ne-eqb (f .dsf) 1 (λ z. omega arith), ne-eqb (f .dsf) 2 (λ z. omega arith), eq-eqb (f .fsf) 1 k)
+
+    pub jumps : (f .fsf ≡ 1 → ⊥) → delivered m f n (v, b, s) ≡ with-flags-of m (v % 2 ^ 20) b s
+    unfolding delivered
+    jumps k = rw (ne-eqb (f .dsf) 0 (λ z. omega arith), ne-eqb (f .dsf) 1 (λ z. omega arith), ne-eqb (f .dsf) 2 (λ z. omega arith), ne-eqb (f .fsf) 1 k)
+
+-- The functions of a jump read main memory or have a constant.
+jump-operands : (f : Fields) (at r : ℕ) (main ports : List ℕ) → (eqb (f .fsf) 1 || (eqb (f .fsf) 3 || (eqb (f .fsf) 5 || eqb (f .fsf) 7))) ≡ true
+    → operands-of computes f at r main ports ≡ constant-or f main at r
+unfolding operands-of
+jump-operands f at r main ports h =
+    rw (ne-eqb (f .fsf) 12 (λ e. true≢false (sym (rw e at h))), ne-eqb (f .fsf) 2 (λ e. true≢false (sym (rw e at h))))
 
 -- A write is held exactly when its place is fitted.
 pub write-operands : (f : Fields) (at r : ℕ) (main ports : List ℕ) (t : Bool) → fitted (ram main ports) (where-of (place-by (eqb (f .dsf) 6) at)) ≡ t
@@ -159,23 +161,67 @@ module _ (m : Machine) (main ports : List ℕ) (w : ℕ) (d : Decoded) (g : InRa
   unfolding operands-of
   compares-lacking q h k = sym (once-lacking compares q (sym h ∙ k))
 
-  pub writes-once : {x : End} {t : Bool} {place : Place} → part-of (d .part) ≡ writes → place ≡ place-by (eqb (d .fields .dsf) 6) (d .address) → t ≡ fitted (ram main ports) (where-of place) → t ≡ true
+  -- Class 3 is the write to a port.
+  place-is : d .part ≡ Writes → place-by (eqb (d .class) 3) (d .address) ≡ place-by (eqb (d .fields .dsf) 6) (d .address)
+  place-is q =
+      let k : Classed Writes (class-of-word w) = rw (q, e .class) at (e .classed) in
+      rw (e .class, e .fields .of-dsf) (ap (λ (t : Bool). place-by t (d .address)) (write-class w (k .0) (k .1)))
+
+  pub writes-once : {x : End} {t : Bool} {place : Place} → d .part ≡ Writes → place ≡ place-by (eqb (d .class) 3) (d .address) → t ≡ fitted (ram main ports) (where-of place) → t ≡ true
       → x ≡ completed m (record { machine = with-flags-of m (d .next) (m .b) false; written = phases.Word place (d .r) }) (ram main ports) trail used → x ≡ once m (ram main ports) trail used
   unfolding executed
   writes-once {x} {t} {place} q i h k z =
-      z ∙ rw (e .next, i) (sym (once-held writes q {r = d .r} {v = 0} (write-operands (d .fields) (d .address) (d .r) main ports true (rw (← i) (sym h ∙ k)))))
+      let j = i ∙ place-is q in
+      z ∙ rw (e .next, j) (sym (once-held writes (ap part-of q) {r = d .r} {v = 0} (write-operands (d .fields) (d .address) (d .r) main ports true (rw (← j) (sym h ∙ k)))))
 
-  pub writes-lacking : {t : Bool} {place : Place} → part-of (d .part) ≡ writes → place ≡ place-by (eqb (d .fields .dsf) 6) (d .address) → t ≡ fitted (ram main ports) (where-of place) → t ≡ false
+  pub writes-lacking : {t : Bool} {place : Place} → d .part ≡ Writes → place ≡ place-by (eqb (d .class) 3) (d .address) → t ≡ fitted (ram main ports) (where-of place) → t ≡ false
       → ended stepped.Unfitted (ram main ports) trail ≡ once m (ram main ports) trail used
-  writes-lacking q i h k = sym (once-lacking writes q (write-operands (d .fields) (d .address) (d .r) main ports false (rw (← i) (sym h ∙ k))))
+  writes-lacking q i h k =
+      let j = i ∙ place-is q in
+      sym (once-lacking writes (ap part-of q) (write-operands (d .fields) (d .address) (d .r) main ports false (rw (← j) (sym h ∙ k))))
 
-  pub computes-once : {x : End} {o : Operands} {r v : ℕ} {u : Triple} → part-of (d .part) ≡ computes → o ≡ operands-of computes (d .fields) (d .address) (d .r) main ports → o ≡ Held r v
-      → u ≡ ALU (d .fields .fsf, d .fields .msf, d .fields .dsf, r, v, m .b) → x ≡ completed m (alone (delivered m (d .fields) (d .next) u)) (ram main ports) trail used → x ≡ once m (ram main ports) trail used
+  -- A result for A, X or Y.
+  pub register : d .part ≡ Computes → (4 ≤ d .class) × (d .class ≤ 6)
+  register q = rw q at (e .classed)
+
+  register-dsf : d .part ≡ Computes → d .fields .dsf + 4 ≡ d .class
+  register-dsf q =
+      let k : Classed Computes (class-of-word w) = rw (q, e .class) at (e .classed) in
+      rw (e .fields .of-dsf, e .class) (register-class w (k .0) (k .1))
+
+  pub computes-once : {x : End} {o : Operands} {r v : ℕ} {u : Triple} → d .part ≡ Computes → o ≡ operands-of computes (d .fields) (d .address) (d .r) main ports → o ≡ Held r v
+      → ((df : ℕ) → df < 3 → u ≡ ALU (d .fields .fsf, d .fields .msf, df, r, v, m .b))
+      → ((g : Fields) → g .dsf + 4 ≡ d .class → x ≡ completed m (alone (delivered m g (d .next) u)) (ram main ports) trail used) → x ≡ once m (ram main ports) trail used
   unfolding executed
-  computes-once {x} {o} {r} {v} {u} q h k l z = z ∙ rw (e .next, l) (sym (once-held computes q {r = r} {v = v} (sym h ∙ k)))
+  computes-once {x} {o} {r} {v} {u} q h k l z =
+      let low : d .fields .dsf < 3 = omega (arith, register-dsf q, register q) in
+      z (d .fields) (register-dsf q) ∙ rw (e .next, l (d .fields .dsf) low) (sym (once-held computes (ap part-of q) {r = r} {v = v} (sym h ∙ k)))
 
-  pub computes-lacking : {o : Operands} → part-of (d .part) ≡ computes → o ≡ operands-of computes (d .fields) (d .address) (d .r) main ports → o ≡ Unfitted → ended stepped.Unfitted (ram main ports) trail ≡ once m (ram main ports) trail used
-  computes-lacking q h k = sym (once-lacking computes q (sym h ∙ k))
+  pub computes-lacking : {o : Operands} → d .part ≡ Computes → o ≡ operands-of computes (d .fields) (d .address) (d .r) main ports → o ≡ Unfitted → ended stepped.Unfitted (ram main ports) trail ≡ once m (ram main ports) trail used
+  computes-lacking q h k = sym (once-lacking computes (ap part-of q) (sym h ∙ k))
+
+  -- A result for P.
+  to-p-class : d .part ≡ Jumps → 7 ≤ class-of-word w
+  to-p-class q = rw (q, e .class) at (e .classed)
+
+  pub jump-dsf : d .part ≡ Jumps → 3 ≤ d .fields .dsf
+  jump-dsf q = rw (e .fields .of-dsf) (jump-class w (to-p-class q) .0)
+
+  pub jump-fsf : d .part ≡ Jumps → (eqb (d .fields .fsf) 1 || (eqb (d .fields .fsf) 3 || (eqb (d .fields .fsf) 5 || eqb (d .fields .fsf) 7))) ≡ true
+  jump-fsf q = rw (e .fields .of-fsf) (jump-function w (to-p-class q))
+
+  jump-holds : {o o′ : Operands} → d .part ≡ Jumps → o ≡ constant-or (d .fields) main (d .address) (d .r) → o ≡ o′ → operands-of computes (d .fields) (d .address) (d .r) main ports ≡ o′
+  jump-holds q h k = jump-operands (d .fields) (d .address) (d .r) main ports (jump-fsf q) ∙ (sym h ∙ k)
+
+  pub jumps-once : {x : End} {o : Operands} {r v : ℕ} {u : Triple} → d .part ≡ Jumps → o ≡ constant-or (d .fields) main (d .address) (d .r) → o ≡ Held r v
+      → ((mf df : ℕ) → to-p df ≡ true → u ≡ ALU (d .fields .fsf, mf, df, r, v, m .b))
+      → x ≡ completed m (alone (delivered m (d .fields) (d .next) u)) (ram main ports) trail used → x ≡ once m (ram main ports) trail used
+  unfolding executed
+  jumps-once {x} {o} {r} {v} {u} q h k l z =
+      z ∙ rw (e .next, l (d .fields .msf) (d .fields .dsf) (rw (e .fields .of-dsf) (jump-to-p w (to-p-class q)))) (sym (once-held computes (ap part-of q) {r = r} {v = v} (jump-holds q h k)))
+
+  pub jumps-lacking : {o : Operands} → d .part ≡ Jumps → o ≡ constant-or (d .fields) main (d .address) (d .r) → o ≡ Unfitted → ended stepped.Unfitted (ram main ports) trail ≡ once m (ram main ports) trail used
+  jumps-lacking q h k = sym (once-lacking computes (ap part-of q) (jump-holds q h k))
 
 -- The word at P is lacking.
 pub fetch-lacking : (m : Machine) (main ports trail : List ℕ) (used : ℕ) → fetched main (m .p) ≡ fetch.Unfitted → ended stepped.Unfitted (ram main ports) trail ≡ once m (ram main ports) trail used

@@ -11,7 +11,7 @@ use native.Mathlib.Nat.{mod-eq-of-lt}
 use lib.Dec.{eqb, ltb}
 use lib.ListN.{length, getD}
 use lib.Seq.{getD-set-same}
-use borrow.Author.Tests.{eqb-false, ltb-true, ltb-false, lt-ltb, le-ltb, leb-false}
+use borrow.Author.Tests.{eqb-true, eqb-false, ltb-true, ltb-false, lt-ltb, le-ltb, leb-false}
 use Rattle.report.specs.AnnexA.{Mem}
 use Rattle.report.specs.Section3.{State, Triple, NEXT, COMPARE}
 use Rattle.report.specs.Parts.{word-at, with-word, fitted, rsf, msf, dsf, fsf, addr, source, address, bad, top, comparison, write, output, input, shift, skip, always-halts, of, compared, computed, to-p, Part, halts, compares, writes, skips, computes, part-by, place-by, operand, placed, after-by, unless, reads-by, writes-by, reads, written, InRange}
@@ -28,7 +28,7 @@ use Rattle.step.specs.Phases as plan
 use Rattle.instruction.specs.PartOf.{part-of}
 use Rattle.step.specs.declared.phases.Decoded.{Decoded}
 use Rattle.step.specs.declared.phases.Fetched.the-variants as fetch
-use Rattle.step.specs.Phases.{Written, Nothing, Word, Change, Plan, fetched, Decodes, next-p, source-of, constant-or, write-to, operands-of, with-flags, delivered, alone, executed, lacks, step-unfitted, writing, planned}
+use Rattle.step.specs.Phases.{Written, Nothing, Word, Change, Plan, fetched, Decodes, next-p, source-of, read-from, write-to, operands-of, with-flags, delivered, alone, executed, lacks, step-unfitted, writing, planned}
 
 -- ---- tests that exclude each other, over the 1,024 classes
 
@@ -109,6 +109,11 @@ delivered-is m w r (v, b, s) h = go (eqb (dsf w) 0) (eqb (dsf w) 1) (eqb (dsf w)
     go false false true t₃ = refl
     go false false false true = ap (λ (y : ℕ). record { a = m .a; x = m .x; y = y; p = v % 2 ^ 20; b = b; stop = s }) (sym (mod-eq-of-lt h))
     go false false false false = refl
+
+-- a shift does not look at M
+shift-has-no-m : (ff mf : ℕ) (pw : Bool) (r v v′ : ℕ) (b : Bool) → ff ≡ 12 → computed ff mf pw r v b ≡ computed ff mf pw r v′ b
+unfolding computed
+shift-has-no-m ff mf pw r v v′ b e = rw e
 
 -- ---- part by part
 
@@ -252,9 +257,14 @@ module _ (m : Machine) (main ports : List ℕ) (g : InRange (state m (ram main p
       let lt : M < 2 ^ 32 = operand-lt board nil io w (m .x) (m .y) (g .main-lt) (g .ports-lt) in
       rw (h, alu-is (fsf w) (msf w) (dsf w) r M (m .b) r-lt lt) (ap alone (sym (delivered-is m w board (computed (fsf w) (msf w) (to-p (dsf w)) r M (m .b)) low)))
 
-  no-operand : (io : Bool) → 0 ≡ operand board true io w (m .x) (m .y)
-  unfolding operand
-  no-operand io = refl
+  -- a shift, whatever stands for its M
+  shifts : (v : ℕ) (io : Bool) → v < 2 ^ 32 → fsf w ≡ 12 → m .p + 1 < 2 ^ 20
+      → executed computes f at m r v ≡ alone (machine-of (placed (dsf w) (fsf w) board (m .p) (m .a) (m .x) (m .y) (computed (fsf w) (msf w) (to-p (dsf w)) r (operand board true io w (m .x) (m .y)) (m .b))))
+  unfolding executed
+  shifts v io lt h low =
+      let pw = to-p (dsf w) in
+      rw (alu-is (fsf w) (msf w) (dsf w) r v (m .b) r-lt lt, shift-has-no-m (fsf w) (msf w) pw r v (operand board true io w (m .x) (m .y)) (m .b) h)
+      (ap alone (sym (delivered-is m w board (computed (fsf w) (msf w) pw r (operand board true io w (m .x) (m .y)) (m .b)) low)))
 
   plan-computes : part-by w (m .p) at (m .b) false ≡ computes → of comparison w ≡ false → of write w ≡ false → m .p + 1 < 2 ^ 20
       → (of shift w ≡ false → at < 2 ^ 20)
@@ -267,27 +277,27 @@ module _ (m : Machine) (main ports : List ℕ) (g : InRange (state m (ram main p
       h : of shift w ≡ eqb (fsf w) 12
       h = rw (c, v) at (rest-shift w)
 
+      -- what the step changes, where nil says that it has no M
+      goes : Bool → Bool → Plan
+      goes nil io = plan.Go (alone (machine-of (placed (dsf w) (fsf w) board (m .p) (m .a) (m .x) (m .y) (computed (fsf w) (msf w) (to-p (dsf w)) r (operand board nil io w (m .x) (m .y)) (m .b)))))
+
       go : (z : Bool) → of shift w ≡ z → (io k : Bool) → eqb (msf w) 0 ≡ k
-          → plan-from computes f at m (cond z (Held r 0) (cond io (constant-or f ports at r) (constant-or f main at r)))
-          ≡ cond (lacks board (unless (z || k) (place-by io w (m .x) (m .y))) || false) plan.Lacking
-          (plan.Go (alone (machine-of (placed (dsf w) (fsf w) board (m .p) (m .a) (m .x) (m .y) (computed (fsf w) (msf w) (to-p (dsf w)) r (operand board z io w (m .x) (m .y)) (m .b))))))
-      go true z io k y = ap plan.Go (result 0 true io low (no-operand io))
-      go false z io true y = rw y (constants io)
+          → plan-from computes f at m (cond k (Held r (addr w)) (cond z (Held r (addr w)) (cond io (read-from ports at r) (read-from main at r))))
+          ≡ cond (lacks board (unless (z || k) (place-by io w (m .x) (m .y))) || false) plan.Lacking (goes z io)
+      go true z io k y = either k
         where
-          constants : (io : Bool) → plan-from computes f at m (cond io (Held r (addr w)) (Held r (addr w)))
-              ≡ plan.Go (alone (machine-of (placed (dsf w) (fsf w) board (m .p) (m .a) (m .x) (m .y) (computed (fsf w) (msf w) (to-p (dsf w)) r (operand board false io w (m .x) (m .y)) (m .b)))))
-          constants true = ap plan.Go (result (addr w) false true low (constant true y))
-          constants false = ap plan.Go (result (addr w) false false low (constant false y))
-      go false z true false y = rw (y, lacks-port (near z)) (port (ltb at (length ports)))
+          either : (k : Bool) → plan-from computes f at m (cond k (Held r (addr w)) (Held r (addr w))) ≡ goes true io
+          either true = ap plan.Go (shifts (addr w) io (omega arith) (eqb-true (fsf w) 12 (sym h ∙ z)) low)
+          either false = ap plan.Go (shifts (addr w) io (omega arith) (eqb-true (fsf w) 12 (sym h ∙ z)) low)
+      go false z io true y = ap plan.Go (result (addr w) false io low (constant io y))
+      go false z true false y = rw (lacks-port (near z)) (port (ltb at (length ports)))
         where
-          port : (t : Bool) → plan-from computes f at m (cond t (Held r (getD ports at 0)) Unfitted)
-              ≡ cond (not t || false) plan.Lacking (plan.Go (alone (machine-of (placed (dsf w) (fsf w) board (m .p) (m .a) (m .x) (m .y) (computed (fsf w) (msf w) (to-p (dsf w)) r (operand board false true w (m .x) (m .y)) (m .b))))))
+          port : (t : Bool) → plan-from computes f at m (cond t (Held r (getD ports at 0)) Unfitted) ≡ cond (not t || false) plan.Lacking (goes false true)
           port true = ap plan.Go (result (getD ports at 0) false true low (from-ports (near z) y))
           port false = refl
-      go false z false false y = rw (y, lacks-main (near z)) (word (ltb at (length main)))
+      go false z false false y = rw (lacks-main (near z)) (word (ltb at (length main)))
         where
-          word : (t : Bool) → plan-from computes f at m (cond t (Held r (getD main at 0)) Unfitted)
-              ≡ cond (not t || false) plan.Lacking (plan.Go (alone (machine-of (placed (dsf w) (fsf w) board (m .p) (m .a) (m .x) (m .y) (computed (fsf w) (msf w) (to-p (dsf w)) r (operand board false false w (m .x) (m .y)) (m .b))))))
+          word : (t : Bool) → plan-from computes f at m (cond t (Held r (getD main at 0)) Unfitted) ≡ cond (not t || false) plan.Lacking (goes false false)
           word true = ap plan.Go (result (getD main at 0) false false low (from-main (near z) y))
           word false = refl
 

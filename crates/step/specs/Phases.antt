@@ -16,7 +16,8 @@ use Rattle.machine.specs.Held.{machine-of, place-by, place-of}
 use Rattle.machine.specs.declared.Machine.{Machine}
 use Rattle.machine.specs.declared.Place.{Place}
 use Rattle.instruction.specs.Fields.{Fielded}
-use Rattle.instruction.specs.PartOf.{part-of}
+use Rattle.instruction.specs.PartOf.{part-of, Classed}
+use Rattle.instruction.specs.Classes.{class-of-word}
 use Rattle.instruction.specs.declared.Fields.{Fields}
 use Rattle.step.specs.declared.phases.Fetched.{Fetched}
 use Rattle.step.specs.declared.phases.Fetched.the-variants as fetch
@@ -43,7 +44,9 @@ pub record Decodes (m : Machine) (w : ℕ) (d : Decoded) : Type 0 where
   pub address : d .address ≡ OFFSET (parts.msf w, parts.addr w, m .x, m .y)
   pub next : d .next ≡ next-p m
   pub r : d .r ≡ source-of m (d .fields)
+  pub class : d .class ≡ class-of-word w
   pub part : part-of (d .part) ≡ part-by w (m .p) (d .address) (m .b) false
+  pub classed : Classed (d .part) (d .class)
 
 -- ---- operands
 
@@ -56,6 +59,7 @@ constant-or f store at r = cond (eqb (f .msf) 0) (Held r (f .addr)) (read-from s
 abbrev pub write-to : ℕ → ℕ → ℕ → Operands
 write-to words at r = cond (ltb at words) (Held r 0) Unfitted
 
+-- A shift has no M and reads no word; the constant stands in its place.
 unfoldable pub operands-of : Part → Fields → ℕ → ℕ → List ℕ → List ℕ → Operands
 operands-of stopped f at r main ports = Held r 0
 operands-of halts f at r main ports = Held r 0
@@ -63,7 +67,9 @@ operands-of compares f at r main ports = constant-or f main at r
 operands-of writes f at r main ports = cond (eqb (f .dsf) 6) (write-to (length ports) at r) (write-to (length main) at r)
 operands-of skips f at r main ports = Held r 0
 operands-of computes f at r main ports =
-    cond (eqb (f .fsf) 12) (Held r 0) (cond (eqb (f .fsf) 2) (constant-or f ports at r) (constant-or f main at r))
+    cond (eqb (f .msf) 0) (Held r (f .addr))
+    (cond (eqb (f .fsf) 12) (Held r (f .addr))
+    (cond (eqb (f .fsf) 2) (read-from ports at r) (read-from main at r)))
 
 -- ---- execute
 

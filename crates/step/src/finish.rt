@@ -213,6 +213,36 @@ pub(crate) fn finish_y(
     Stepped::Done(after, n)
 }
 
+// Finishes a call, which puts v in Y and jumps to p. It is finish_call once more: each finish has one caller, so that the compiler puts it in line.
+pub(crate) fn finish_call(
+    m: Machine,
+    v: u32,
+    p: u32,
+    b: bool,
+    stop: bool,
+    trail: &mut [u8],
+    used: usize,
+) -> Stepped
+    requires { ⌜ (m .p < 2 ^ 20) × (used ≤ length (now trail)) ⌝ }
+    ensures { λ r. ⌜ ((stores : Mem) → ended r stores (now (trail .exit)) ≡ completed m (alone (record { a = m .a; x = m .x; y = v; p = p; b = b; stop = stop })) stores (now (trail .entry)) used) ⌝ }
+{
+    if m.y == v {
+        return finish_flags(m, p, b, stop, trail, used);
+    }
+    let Added::Used(n) = trail::records::add_register(trail, used, 4, m.p, m.b, m.stop, m.y) else {
+        return Stepped::Full;
+    };
+    let after = Machine {
+        a: m.a,
+        x: m.x,
+        y: v,
+        p,
+        b,
+        stop,
+    };
+    Stepped::Done(after, n)
+}
+
 // Finishes a step that writes a word to a fitted place.
 pub(crate) fn finish_word(
     m: Machine,

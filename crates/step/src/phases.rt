@@ -3,6 +3,7 @@
 // the phases ends in the finish that it needs.
 use crate::finish::Stepped;
 use crate::finish::finish_a;
+use crate::finish::finish_call;
 use crate::finish::finish_flags;
 use crate::finish::finish_word;
 use crate::finish::finish_x;
@@ -17,13 +18,14 @@ use machine::PortNumber;
 use word::AluResult;
 ghost use mathlib.Core.Path.{_≡_};
 ghost use mathlib.Core.Bool.{false, cond};
-ghost use Prim.Native.Nat.{_+_, _≤_, _<_, _^_};
+ghost use Prim.Native.Nat.{_+_, _%_, _≤_, _<_, _^_};
 ghost use lib.Dec.{eqb};
 ghost use lib.ListN.{length};
 ghost use Rattle.report.specs.AnnexA.{Mem};
 ghost use Rattle.report.specs.Parts.{computes};
 ghost use Rattle.machine.specs.Held.{ram, place-by};
 ghost use Rattle.instruction.specs.Classes.{Classified};
+ghost use Rattle.instruction.specs.declared.Fields.{Fields as Fielding};
 ghost use Rattle.word.specs.Triples.{result-triple};
 ghost use Rattle.step.specs.Lawful.{Lawful};
 ghost use Rattle.step.specs.Phases.{fetched, Decodes, read-from, constant-or, operands-of, delivered, alone};
@@ -35,12 +37,13 @@ pub enum Fetched {
     Unfitted,
 }
 
-// A word decoded on a machine: its fields, its whole address, the P after it, R, and the part of the order that it comes to.
+// A word decoded on a machine: its fields, its whole address, the P after it, R, its class, and the part of the order that it comes to.
 pub struct Decoded {
     pub fields: Fields,
     pub address: u32,
     pub next: u32,
     pub r: u32,
+    pub class: u8,
     pub part: Part,
 }
 
@@ -60,6 +63,17 @@ pub(crate) fn fetch(main: &[u32], p: u32) -> Fetched
     Fetched::Unfitted
 }
 
+// N, with its twenty bits.
+fn next_p(p: u32) -> u32
+    requires { ⌜ p < 2 ^ 20 ⌝ }
+    ensures { λ n. ⌜ n ≡ (p + 1) % 2 ^ 20 ⌝ }
+{
+    if p == 0xF_FFFF {
+        return 0;
+    }
+    p + 1
+}
+
 pub(crate) fn decode(table: &[u8; 1024], m: Machine, w: u32) -> Decoded
     requires { ⌜ Classified (now table) ⌝ }
     requires { ⌜ m .p < 2 ^ 20 ⌝ }
@@ -68,7 +82,7 @@ pub(crate) fn decode(table: &[u8; 1024], m: Machine, w: u32) -> Decoded
     let class = instruction::class_of(table, w);
     let fields = instruction::take_apart(w);
     let address = instruction::address(fields.msf, fields.addr, m.x, m.y);
-    let next = (m.p + 1) % 0x10_0000;
+    let next = next_p(m.p);
     let r = instruction::register(fields.rsf, m.a, m.x, m.y, next);
     let part = instruction::decide(w, class, m.p, address, m.b);
     Decoded {
@@ -76,6 +90,7 @@ pub(crate) fn decode(table: &[u8; 1024], m: Machine, w: u32) -> Decoded
         address,
         next,
         r,
+        class,
         part,
     }
 }
@@ -101,24 +116,27 @@ fn constant_or_read(f: Fields, store: &[u32], at: u32, r: u32) -> Operands
     read(store, at, r)
 }
 
-// R and M of a function: a shift reads no word, and function 2 reads a port.
+// R and M of a function: function 2 reads a port. A shift reads no word; the constant stands where it has no M.
 fn operand(f: Fields, main: &[u32], ports: &[u32], at: u32, r: u32) -> Operands
     ensures { λ o. ⌜ o ≡ operands-of computes f at r (now (main .entry)) (now (ports .entry)) ⌝ }
 {
+    if f.msf == 0 {
+        return Operands::Held(r, f.addr);
+    }
     if f.fsf == 12 {
-        return Operands::Held(r, 0);
+        return Operands::Held(r, f.addr);
     }
     if f.fsf == 2 {
-        return constant_or_read(f, ports, at, r);
+        return read(ports, at, r);
     }
-    constant_or_read(f, main, at, r)
+    read(main, at, r)
 }
 
-// The place that a write goes to.
-fn place_of(f: Fields, at: u32) -> Place
-    ensures { λ q. ⌜ q ≡ place-by (eqb (f .dsf) 6) at ⌝ }
+// The place that a write goes to: class 3 writes to a port.
+fn place_of(class: u8, at: u32) -> Place
+    ensures { λ q. ⌜ q ≡ place-by (eqb class 3) at ⌝ }
 {
-    if f.dsf == 6 {
+    if class == 3 {
         return Place::Port(PortNumber(at));
     }
     Place::Main(MainAddress(at))
@@ -131,28 +149,27 @@ pub fn choose(first: bool, a: u32, b: u32) -> u32
     if first { a } else { b }
 }
 
-// Finishes with a result at its destination; a call also puts n, which is P + 1, in Y.
-fn deliver(m: Machine, f: Fields, n: u32, t: AluResult, trail: &mut [u8], used: usize) -> Stepped
-    requires { ⌜ (m .p < 2 ^ 20) × (used ≤ length (now trail)) ⌝ }
-    ensures { λ r. ⌜ ((stores : Mem) → ended r stores (now (trail .exit)) ≡ completed m (alone (delivered m f n (result-triple t))) stores (now (trail .entry)) used) ⌝ }
+// Finishes with a result for A, X or Y, which are the classes 4, 5 and 6.
+fn deliver(m: Machine, class: u8, n: u32, t: AluResult, trail: &mut [u8], used: usize) -> Stepped
+    requires { ⌜ (m .p < 2 ^ 20) × (used ≤ length (now trail)) × (4 ≤ class) × (class ≤ 6) ⌝ }
+    ensures { λ r. ⌜ ((stores : Mem) (f : Fielding) → f .dsf + 4 ≡ class → ended r stores (now (trail .exit)) ≡ completed m (alone (delivered m f n (result-triple t))) stores (now (trail .entry)) used) ⌝ }
 {
-    if f.dsf == 0 {
+    if class == 4 {
         return finish_a(m, t.value, n, t.b, t.stop, trail, used);
     }
-    if f.dsf == 1 {
+    if class == 5 {
         return finish_x(m, t.value, n, t.b, t.stop, trail, used);
     }
-    let y = f.dsf == 2;
-    if y | (f.fsf == 1) {
-        return finish_y(
-            m,
-            choose(y, t.value, n),
-            choose(y, n, t.value % 0x10_0000),
-            t.b,
-            t.stop,
-            trail,
-            used,
-        );
+    finish_y(m, t.value, n, t.b, t.stop, trail, used)
+}
+
+// Finishes with a result for P; a call, function 1, also puts n, which is P + 1, in Y.
+fn jump(m: Machine, f: Fields, n: u32, t: AluResult, trail: &mut [u8], used: usize) -> Stepped
+    requires { ⌜ (m .p < 2 ^ 20) × (used ≤ length (now trail)) × (3 ≤ f .dsf) ⌝ }
+    ensures { λ r. ⌜ ((stores : Mem) → ended r stores (now (trail .exit)) ≡ completed m (alone (delivered m f n (result-triple t))) stores (now (trail .entry)) used) ⌝ }
+{
+    if f.fsf == 1 {
+        return finish_call(m, n, t.value % 0x10_0000, t.b, t.stop, trail, used);
     }
     finish_flags(m, t.value % 0x10_0000, t.b, t.stop, trail, used)
 }
@@ -194,7 +211,7 @@ pub fn step_once(
             )
         }
         Part::Writes => {
-            let place = place_of(f, at);
+            let place = place_of(d.class, at);
             if !is_fitted(main, ports, place) {
                 return Stepped::Unfitted;
             }
@@ -205,8 +222,15 @@ pub fn step_once(
             let Operands::Held(r, v) = operand(f, main, ports, at, d.r) else {
                 return Stepped::Unfitted;
             };
-            let t = word::alu(f.fsf, f.msf, f.dsf, r, v, m.b);
-            deliver(m, f, d.next, t, trail, used)
+            let t = word::alu_register(f.fsf, f.msf, r, v, m.b);
+            deliver(m, d.class, d.next, t, trail, used)
+        }
+        Part::Jumps => {
+            let Operands::Held(r, to) = constant_or_read(f, main, at, d.r) else {
+                return Stepped::Unfitted;
+            };
+            let t = word::alu_jump(f.fsf, r, to, m.b);
+            jump(m, f, d.next, t, trail, used)
         }
     }
 }

@@ -1,7 +1,10 @@
 // Arithmetic on words of 32 bits: sums, comparisons, shifts and the ALU, each the report's own function (pages 10 to 16, tables 5 and 6).
 ghost use mathlib.Core.Path.{_≡_};
+ghost use mathlib.Core.Bool.{true, false, _||_};
+ghost use Prim.Native.Nat.{ℕ, _<_};
+ghost use lib.Dec.{eqb};
 ghost use Rattle.report.specs.Section3.{ADD32, SUB32, COMPARE, RIGHT, LEFT, RIGHTARITH, INVALID, ALU};
-ghost use Rattle.report.specs.Parts.{signed as signed·of, less as less·than, shifted};
+ghost use Rattle.report.specs.Parts.{signed as signed·of, less as less·than, shifted, to-p};
 ghost use Rattle.word.specs.Triples.{sum-triple, result-triple};
 ghost use mir.Syntax.{w32};
 ghost use mir.Val.{ofZ};
@@ -140,69 +143,68 @@ pub fn invalid(v: u32) -> bool
     v >= 0x0010_0000
 }
 
-// Table 6B: the four shifts, by msf. `pwrite` says that the destination is P.
-fn shift(msf: u32, pwrite: bool, r: u32, b: bool) -> AluResult
-    ensures { λ x. ⌜ result-triple x ≡ shifted msf pwrite r b ⌝ }
+// Table 6B: the four shifts, by msf, for a destination other than P.
+fn shift(msf: u32, r: u32, b: bool) -> AluResult
+    ensures { λ x. ⌜ result-triple x ≡ shifted msf false r b ⌝ }
 {
     match msf {
         0 => AluResult {
             value: right_arith(r),
             b,
-            stop: pwrite,
+            stop: false,
         },
         1 => AluResult {
             value: right(b, r),
             b: r % 2 == 1,
-            stop: pwrite,
+            stop: false,
         },
         2 => {
             let double = add(r, r);
             AluResult {
                 value: double.value,
                 b,
-                stop: double.overflow | pwrite,
+                stop: double.overflow,
             }
         }
         _ => AluResult {
             value: left(r, b),
             b: r / 0x8000_0000 % 2 == 1,
-            stop: pwrite,
+            stop: false,
         },
     }
 }
 
-// Tables 6A and 6B.
-pub fn alu(fsf: u32, msf: u32, dsf: u32, r: u32, m: u32, b: bool) -> AluResult
-    ensures { λ x. ⌜ result-triple x ≡ ALU (fsf, msf, dsf, r, m, b) ⌝ }
+// Tables 6A and 6B where the result goes to A, X or Y.
+pub fn alu_register(fsf: u32, msf: u32, r: u32, m: u32, b: bool) -> AluResult
+    ensures { λ x. ⌜ ((dsf : ℕ) → dsf < 3 → result-triple x ≡ ALU (fsf, msf, dsf, r, m, b)) ⌝ }
 {
-    let pwrite = (dsf == 3) | ((dsf == 4) | (dsf == 5));
     match fsf {
         0 => AluResult {
             value: !m,
             b,
-            stop: pwrite,
+            stop: false,
         },
         1 => AluResult {
             value: m,
             b,
-            stop: !pwrite | invalid(m),
+            stop: true,
         },
         2 => AluResult {
             value: m,
             b,
-            stop: pwrite,
+            stop: false,
         },
         3 => AluResult {
             value: m,
             b,
-            stop: pwrite & invalid(m),
+            stop: false,
         },
         4 => {
             let sum = add(r, m);
             AluResult {
                 value: sum.value,
                 b: sum.carry,
-                stop: pwrite,
+                stop: false,
             }
         }
         5 => {
@@ -210,7 +212,7 @@ pub fn alu(fsf: u32, msf: u32, dsf: u32, r: u32, m: u32, b: bool) -> AluResult
             AluResult {
                 value: sum.value,
                 b,
-                stop: sum.overflow | (pwrite & invalid(sum.value)),
+                stop: sum.overflow,
             }
         }
         6 => {
@@ -218,7 +220,7 @@ pub fn alu(fsf: u32, msf: u32, dsf: u32, r: u32, m: u32, b: bool) -> AluResult
             AluResult {
                 value: dif.value,
                 b: dif.carry,
-                stop: pwrite,
+                stop: false,
             }
         }
         7 => {
@@ -226,34 +228,64 @@ pub fn alu(fsf: u32, msf: u32, dsf: u32, r: u32, m: u32, b: bool) -> AluResult
             AluResult {
                 value: dif.value,
                 b,
-                stop: dif.overflow | (pwrite & invalid(dif.value)),
+                stop: dif.overflow,
             }
         }
         8 => AluResult {
             value: r ^ m,
             b,
-            stop: pwrite,
+            stop: false,
         },
         9 => AluResult {
             value: r & m,
             b,
-            stop: pwrite,
+            stop: false,
         },
         10 => AluResult {
             value: !(r | m),
             b,
-            stop: pwrite,
+            stop: false,
         },
         11 => AluResult {
             value: r & !m,
             b,
-            stop: pwrite,
+            stop: false,
         },
-        12 => shift(msf, pwrite, r, b),
+        12 => shift(msf, r, b),
         _ => AluResult {
             value: r,
             b,
             stop: true,
+        },
+    }
+}
+
+// Table 6A where the result goes to P, which takes the functions 1, 3, 5 and 7 alone.
+pub fn alu_jump(fsf: u32, r: u32, m: u32, b: bool) -> AluResult
+    requires { ⌜ (eqb fsf 1 || (eqb fsf 3 || (eqb fsf 5 || eqb fsf 7))) ≡ true ⌝ }
+    ensures { λ x. ⌜ ((msf dsf : ℕ) → to-p dsf ≡ true → result-triple x ≡ ALU (fsf, msf, dsf, r, m, b)) ⌝ }
+{
+    match fsf {
+        5 => {
+            let sum = add(r, m);
+            AluResult {
+                value: sum.value,
+                b,
+                stop: sum.overflow | invalid(sum.value),
+            }
+        }
+        7 => {
+            let dif = subtract(r, m);
+            AluResult {
+                value: dif.value,
+                b,
+                stop: dif.overflow | invalid(dif.value),
+            }
+        }
+        _ => AluResult {
+            value: m,
+            b,
+            stop: invalid(m),
         },
     }
 }

@@ -1,5 +1,6 @@
 -- Each arm is the report's shift in arithmetic.
 use mathlib.Core.Path.{ap, _∙_}
+use mathlib.Core.Bool.{or-false}
 use borrow.Author.Tests.{ne-eqb}
 use Rattle.report.specs.Section3.{Triple}
 use Rattle.report.specs.Parts.{shifted}
@@ -36,9 +37,9 @@ returns-2 c =
 returns-3 : tie.Need-returns-3
 unfolding shifted
 returns-3 c =
-    let s = c .before .before .before in
-    let e = c .before .add .ensures ∙ add-is (s .args .r) (s .args .r) (s .fits .r .fits) (s .fits .r .fits) in
-    rw (c .before .before .match .keys3, ap (λ (t : Triple). t .0) e, ap (λ (t : Triple). t .2) e)
+    let s = c .before .before in
+    let e = c .add .ensures ∙ add-is (s .args .r) (s .args .r) (s .fits .r .fits) (s .fits .r .fits) in
+    rw (c .before .match .keys3, ap (λ (t : Triple). t .0) e, ap (λ (t : Triple). t .2) e, or-false)
 
 returns-4 : tie.Need-returns-4
 unfolding shifted

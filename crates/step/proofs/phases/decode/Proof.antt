@@ -1,5 +1,5 @@
 -- Each field of the answer is what its function ensures.
-use mathlib.Core.Path.{refl, _∙_}
+use mathlib.Core.Path.{_∙_}
 use native.Mathlib.Omega.{arith}
 use borrow.Author.Needs.{needs}
 use Rattle.step.proofs.phases.decode.Statement.{statement}
@@ -14,8 +14,8 @@ take-apart-requires c κs = search needs
 address-requires : tie.Need-address-requires
 address-requires c κs = search needs
 
-add-next : tie.Need-add-next
-add-next c = omega arith
+next-p-requires : tie.Need-next-p-requires
+next-p-requires c κs = search needs
 
 register-requires : tie.Need-register-requires
 register-requires c κs = omega arith
@@ -29,12 +29,14 @@ returns c =
     record {
       fields = f;
       address = c .before .before .before .address .ensures ∙ rw (f .of-msf, f .of-addr);
-      next = refl;
-      r = c .before .register .ensures;
-      part = c .decide .ensures;
+      next = c .before .before .next-p .ensures;
+      r = c .before .register .ensures ∙ rw (c .before .before .next-p .ensures);
+      class = c .before .before .before .before .before .class-of .ensures;
+      part = c .decide .ensures .0;
+      classed = c .decide .ensures .1;
     }
 
 pub decode-spec : {M : Type 1} → statement M
 decode-spec =
     tie.close
-    (tie.spec class-of-requires take-apart-requires address-requires add-next register-requires decide-requires returns)
+    (tie.spec class-of-requires take-apart-requires address-requires next-p-requires register-requires decide-requires returns)

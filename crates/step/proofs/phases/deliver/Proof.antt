@@ -1,6 +1,8 @@
 -- Each destination has its finish.
+use native.Mathlib.Omega.{arith}
 use Rattle.report.specs.AnnexA.{Mem}
-use Rattle.step.proofs.Completing.{to-a, to-x, to-y, to-p}
+use Rattle.instruction.specs.declared.Fields.{Fields}
+use Rattle.step.proofs.Completing.{to-a, to-x, to-y}
 use borrow.Author.Needs.{needs}
 use Rattle.step.proofs.phases.deliver.Statement.{statement}
 use Rattle.step.proofs.phases.deliver.Tie as tie
@@ -13,8 +15,8 @@ same-length c = search needs
 
 returns : tie.Need-returns
 returns c =
-    let a = c .before .before .before .before .before .before .before .args in
-    λ (r : Mem). rw (to-a (a .m) (a .f) (a .n) (a .t .value) (a .t .b) (a .t .stop) (c .before .before .before .before .if1 .taken)) (c .before .before .finish-a .ensures r)
+    let a = c .before .before .before .before .before .before .args in
+    λ (r : Mem) (f : Fields) h. rw (to-a (a .m) f (a .n) (a .t .value) (a .t .b) (a .t .stop) (omega (arith, h, c .before .before .before .before .if1 .taken))) (c .before .before .finish-a .ensures r)
 
 finish-x-requires : tie.Need-finish-x-requires
 finish-x-requires c κs = search needs
@@ -24,14 +26,8 @@ same-length-2 c = search needs
 
 returns-2 : tie.Need-returns-2
 returns-2 c =
-    let a = c .before .before .before .before .before .before .before .before .before .args in
-    λ (r : Mem). rw (to-x (a .m) (a .f) (a .n) (a .t .value) (a .t .b) (a .t .stop) (c .before .before .before .before .before .before .if1 .left) (c .before .before .before .before .if2 .taken)) (c .before .before .finish-x .ensures r)
-
-choose-requires : tie.Need-choose-requires
-choose-requires c κs = search needs
-
-choose-requires-2 : tie.Need-choose-requires-2
-choose-requires-2 c κs = search needs
+    let a = c .before .before .before .before .before .before .before .args in
+    λ (r : Mem) (f : Fields) h. rw (to-x (a .m) f (a .n) (a .t .value) (a .t .b) (a .t .stop) (omega (arith, h, c .before .before .before .before .if2 .taken))) (c .before .before .finish-x .ensures r)
 
 finish-y-requires : tie.Need-finish-y-requires
 finish-y-requires c κs = search needs
@@ -41,19 +37,9 @@ same-length-3 c = search needs
 
 returns-3 : tie.Need-returns-3
 returns-3 c =
-    let a = c .before .before .before .before .before .before .before .before .before .before .before .before .before .before .before .args in
-    λ (r : Mem). rw (to-y (a .m) (a .f) (a .n) (a .t .value) (a .t .b) (a .t .stop) (c .before .before .before .before .before .before .before .before .before .before .before .before .if1 .left) (c .before .before .before .before .before .before .before .before .before .before .if2 .left) (c .before .before .before .before .before .before .before .if3 .taken) (c .before .before .before .before .before .before .choose .ensures) (c .before .before .before .before .choose2 .ensures)) (c .before .before .finish-y .ensures r)
-
-finish-flags-requires : tie.Need-finish-flags-requires
-finish-flags-requires c κs = search needs
-
-same-length-4 : tie.Need-same-length-4
-same-length-4 c = search needs
-
-returns-4 : tie.Need-returns-4
-returns-4 c =
-    let a = c .before .before .before .before .before .before .before .before .before .before .before .before .before .args in
-    λ (r : Mem). rw (to-p (a .m) (a .f) (a .n) (a .t .value) (a .t .b) (a .t .stop) (c .before .before .before .before .before .before .before .before .before .before .if1 .left) (c .before .before .before .before .before .before .before .before .if2 .left) (c .before .before .before .before .before .if3 .left)) (c .before .before .finish-flags .ensures r)
+    let s = c .before .before .before .before .before .before .before in
+    let a = s .args in
+    λ (r : Mem) (f : Fields) h. rw (to-y (a .m) f (a .n) (a .t .value) (a .t .b) (a .t .stop) (omega (arith, h, s .pre, c .before .before .before .before .before .if1 .left, c .before .before .before .before .if2 .left))) (c .before .before .finish-y .ensures r)
 
 pub deliver-spec : {M : Type 1} → statement M
 deliver-spec =
@@ -65,11 +51,6 @@ deliver-spec =
     finish-x-requires
     same-length-2
     returns-2
-    choose-requires
-    choose-requires-2
     finish-y-requires
     same-length-3
-    returns-3
-    finish-flags-requires
-    same-length-4
-    returns-4)
+    returns-3)

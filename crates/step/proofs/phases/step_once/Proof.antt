@@ -7,7 +7,7 @@ use denote.Ref.{now}
 use Rattle.report.specs.Parts.{InRange}
 use Rattle.machine.specs.Held.{ram, state, where-of}
 use Rattle.instruction.specs.PartOf.{part-of}
-use Rattle.step.proofs.Completing.{fetch-lacking, halts-once, skips-once, compares-once, compares-lacking, writes-once, writes-lacking, computes-once, computes-lacking}
+use Rattle.step.proofs.Completing.{fetch-lacking, halts-once, skips-once, compares-once, compares-lacking, writes-once, writes-lacking, register, computes-once, computes-lacking, jump-dsf, jump-fsf, jumps-once, jumps-lacking}
 use Rattle.report.proofs.Stores.{fitted-low}
 use borrow.Author.Needs.{needs}
 use Rattle.step.proofs.phases.step_once.Statement.{statement}
@@ -103,7 +103,7 @@ returns-3 : tie.Need-returns-3
 returns-3 c =
     let q = c .before .before .before .before .before .before .before .before in
     let s = q .before .before .before .before .before .before .before .before .before in
-    writes-lacking (s .args .m) (now (s .args .main)) (now (s .args .ports)) (q .before .before .w .given .0 .0) (q .decode .result) (in-range q) (s .pre .1 .1) (sym (q .before .before .before .before .fetch .ensures) ∙ q .before .before .w .given .1) (q .decode .ensures) (now (s .args .trail)) (s .args .used) (ap part-of (c .before .before .before .before .before .enum-told5 .given .1)) (c .before .before .before .before .place-of .ensures) (c .before .is-fitted .ensures) (not-true _ (c .if1 .taken))
+    writes-lacking (s .args .m) (now (s .args .main)) (now (s .args .ports)) (q .before .before .w .given .0 .0) (q .decode .result) (in-range q) (s .pre .1 .1) (sym (q .before .before .before .before .fetch .ensures) ∙ q .before .before .w .given .1) (q .decode .ensures) (now (s .args .trail)) (s .args .used) (c .before .before .before .before .before .enum-told5 .given .1) (c .before .before .before .before .place-of .ensures) (c .before .is-fitted .ensures) (not-true _ (c .if1 .taken))
 
 finish-word-requires : tie.Need-finish-word-requires
 finish-word-requires c κs =
@@ -142,42 +142,74 @@ returns-4 : tie.Need-returns-4
 returns-4 c =
     let q = c .before .before .before .before .before .before .before .before in
     let s = q .before .before .before .before .before .before .before .before .before in
-    computes-lacking (s .args .m) (now (s .args .main)) (now (s .args .ports)) (q .before .before .w .given .0 .0) (q .decode .result) (in-range q) (s .pre .1 .1) (sym (q .before .before .before .before .fetch .ensures) ∙ q .before .before .w .given .1) (q .decode .ensures) (now (s .args .trail)) (s .args .used) (ap part-of (c .before .before .before .before .before .enum-told7 .given .1)) (c .before .before .operand .ensures) (c .enum-told8 .given .1)
+    computes-lacking (s .args .m) (now (s .args .main)) (now (s .args .ports)) (q .before .before .w .given .0 .0) (q .decode .result) (in-range q) (s .pre .1 .1) (sym (q .before .before .before .before .fetch .ensures) ∙ q .before .before .w .given .1) (q .decode .ensures) (now (s .args .trail)) (s .args .used) (c .before .before .before .before .before .enum-told7 .given .1) (c .before .before .operand .ensures) (c .enum-told8 .given .1)
 
-alu-requires : tie.Need-alu-requires
-alu-requires c κs = search needs
+alu-register-requires : tie.Need-alu-register-requires
+alu-register-requires c κs = search needs
 
 deliver-requires : tie.Need-deliver-requires
 deliver-requires c κs =
-    let s = c .before .before .before .before .before .before .before .before .before .before .before .before .before .before .before .before .before .before .before .before in
-    (s .pre .1 .0 .p-lt, s .pre .1 .0 .used-le)
+    let q = c .before .before .before .before .before .before .before .before .before .before .before in
+    let s = q .before .before .before .before .before .before .before .before .before in
+    let k = register (s .args .m) (now (s .args .main)) (now (s .args .ports)) (q .before .before .w .given .0 .0) (q .decode .result) (in-range q) (s .pre .1 .1) (sym (q .before .before .before .before .fetch .ensures) ∙ q .before .before .w .given .1) (q .decode .ensures) (now (s .args .trail)) (s .args .used) (c .before .before .before .before .before .before .before .before .enum-told7 .given .1) in
+    (s .pre .1 .0 .p-lt, s .pre .1 .0 .used-le, k .0, k .1)
+
+enum-told-9 : tie.Need-enum-told-9
+enum-told-9 c = search needs
+
+constant-or-read-requires-2 : tie.Need-constant-or-read-requires-2
+constant-or-read-requires-2 c κs = search needs
+
+enum-known-r-3 : tie.Need-enum-known-r-3
+enum-known-r-3 c = search needs
+
+enum-told-10 : tie.Need-enum-told-10
+enum-told-10 c = search needs
 
 same-length-7 : tie.Need-same-length-7
 same-length-7 c = search needs
-
-same-length-8 : tie.Need-same-length-8
-same-length-8 c = search needs
 
 returns-5 : tie.Need-returns-5
 returns-5 c =
     let q = c .before .before .before .before .before .before .before in
     let s = q .before .before .before .before .before .before .before .before .before in
-    halts-once (s .args .m) (now (s .args .main)) (now (s .args .ports)) (q .before .before .w .given .0 .0) (q .decode .result) (in-range q) (s .pre .1 .1) (sym (q .before .before .before .before .fetch .ensures) ∙ q .before .before .w .given .1) (q .decode .ensures) (now (s .args .trail)) (s .args .used) (ap part-of (c .before .before .before .before .enum-told2 .given .1)) (c .before .before .finish-flags .ensures (ram (now (s .args .main)) (now (s .args .ports))))
+    jumps-lacking (s .args .m) (now (s .args .main)) (now (s .args .ports)) (q .before .before .w .given .0 .0) (q .decode .result) (in-range q) (s .pre .1 .1) (sym (q .before .before .before .before .fetch .ensures) ∙ q .before .before .w .given .1) (q .decode .ensures) (now (s .args .trail)) (s .args .used) (c .before .before .before .before .enum-told9 .given .1) (c .before .before .constant-or-read2 .ensures) (c .enum-told10 .given .1)
+
+alu-jump-requires : tie.Need-alu-jump-requires
+alu-jump-requires c κs =
+    let q = c .before .before .before .before .before .before .before .before in
+    let s = q .before .before .before .before .before .before .before .before .before in
+    jump-fsf (s .args .m) (now (s .args .main)) (now (s .args .ports)) (q .before .before .w .given .0 .0) (q .decode .result) (in-range q) (s .pre .1 .1) (sym (q .before .before .before .before .fetch .ensures) ∙ q .before .before .w .given .1) (q .decode .ensures) (now (s .args .trail)) (s .args .used) (c .before .before .before .before .before .enum-told9 .given .1)
+
+jump-requires : tie.Need-jump-requires
+jump-requires c κs =
+    let q = c .before .before .before .before .before .before .before .before .before .before in
+    let s = q .before .before .before .before .before .before .before .before .before in
+    (s .pre .1 .0 .p-lt, s .pre .1 .0 .used-le, jump-dsf (s .args .m) (now (s .args .main)) (now (s .args .ports)) (q .before .before .w .given .0 .0) (q .decode .result) (in-range q) (s .pre .1 .1) (sym (q .before .before .before .before .fetch .ensures) ∙ q .before .before .w .given .1) (q .decode .ensures) (now (s .args .trail)) (s .args .used) (c .before .before .before .before .before .before .before .enum-told9 .given .1))
+
+same-length-8 : tie.Need-same-length-8
+same-length-8 c = search needs
 
 same-length-9 : tie.Need-same-length-9
 same-length-9 c = search needs
 
+returns-6 : tie.Need-returns-6
+returns-6 c =
+    let q = c .before .before .before .before .before .before .before in
+    let s = q .before .before .before .before .before .before .before .before .before in
+    halts-once (s .args .m) (now (s .args .main)) (now (s .args .ports)) (q .before .before .w .given .0 .0) (q .decode .result) (in-range q) (s .pre .1 .1) (sym (q .before .before .before .before .fetch .ensures) ∙ q .before .before .w .given .1) (q .decode .ensures) (now (s .args .trail)) (s .args .used) (ap part-of (c .before .before .before .before .enum-told2 .given .1)) (c .before .before .finish-flags .ensures (ram (now (s .args .main)) (now (s .args .ports))))
+
 same-length-10 : tie.Need-same-length-10
 same-length-10 c = search needs
 
-returns-6 : tie.Need-returns-6
-returns-6 c =
+same-length-11 : tie.Need-same-length-11
+same-length-11 c = search needs
+
+returns-7 : tie.Need-returns-7
+returns-7 c =
     let q = c .before .before .before .before .before .before .before .before .before .before .before .before .before in
     let s = q .before .before .before .before .before .before .before .before .before in
     compares-once (s .args .m) (now (s .args .main)) (now (s .args .ports)) (q .before .before .w .given .0 .0) (q .decode .result) (in-range q) (s .pre .1 .1) (sym (q .before .before .before .before .fetch .ensures) ∙ q .before .before .w .given .1) (q .decode .ensures) (now (s .args .trail)) (s .args .used) (ap part-of (c .before .before .before .before .before .before .before .before .before .before .enum-told3 .given .1)) (c .before .before .before .before .before .before .before .before .constant-or-read .ensures) (c .before .before .before .before .before .before .r .given .1) (c .before .before .before .before .compare .ensures) (c .before .before .finish-flags2 .ensures (ram (now (s .args .main)) (now (s .args .ports))))
-
-same-length-11 : tie.Need-same-length-11
-same-length-11 c = search needs
 
 same-length-12 : tie.Need-same-length-12
 same-length-12 c = search needs
@@ -185,26 +217,26 @@ same-length-12 c = search needs
 same-length-13 : tie.Need-same-length-13
 same-length-13 c = search needs
 
-returns-7 : tie.Need-returns-7
-returns-7 c =
-    let q = c .before .before .before .before .before .before .before .before .before .before .before .before .before .before .before .before .before .before in
-    let s = q .before .before .before .before .before .before .before .before .before in
-    writes-once (s .args .m) (now (s .args .main)) (now (s .args .ports)) (q .before .before .w .given .0 .0) (q .decode .result) (in-range q) (s .pre .1 .1) (sym (q .before .before .before .before .fetch .ensures) ∙ q .before .before .w .given .1) (q .decode .ensures) (now (s .args .trail)) (s .args .used) (ap part-of (c .before .before .before .before .before .before .before .before .before .before .before .before .before .before .before .enum-told5 .given .1)) (c .before .before .before .before .before .before .before .before .before .before .before .before .before .before .place-of .ensures) (c .before .before .before .before .before .before .before .before .before .before .before .is-fitted .ensures) (not-false _ (c .before .before .before .before .before .before .before .before .before .before .if1 .left)) (c .before .before .before .before .before .before .finish-word .ensures)
-
 same-length-14 : tie.Need-same-length-14
 same-length-14 c = search needs
+
+returns-8 : tie.Need-returns-8
+returns-8 c =
+    let q = c .before .before .before .before .before .before .before .before .before .before .before .before .before .before .before .before .before .before in
+    let s = q .before .before .before .before .before .before .before .before .before in
+    writes-once (s .args .m) (now (s .args .main)) (now (s .args .ports)) (q .before .before .w .given .0 .0) (q .decode .result) (in-range q) (s .pre .1 .1) (sym (q .before .before .before .before .fetch .ensures) ∙ q .before .before .w .given .1) (q .decode .ensures) (now (s .args .trail)) (s .args .used) (c .before .before .before .before .before .before .before .before .before .before .before .before .before .before .before .enum-told5 .given .1) (c .before .before .before .before .before .before .before .before .before .before .before .before .before .before .place-of .ensures) (c .before .before .before .before .before .before .before .before .before .before .before .is-fitted .ensures) (not-false _ (c .before .before .before .before .before .before .before .before .before .before .if1 .left)) (c .before .before .before .before .before .before .finish-word .ensures)
 
 same-length-15 : tie.Need-same-length-15
 same-length-15 c = search needs
 
-returns-8 : tie.Need-returns-8
-returns-8 c =
+same-length-16 : tie.Need-same-length-16
+same-length-16 c = search needs
+
+returns-9 : tie.Need-returns-9
+returns-9 c =
     let q = c .before .before .before .before .before .before .before in
     let s = q .before .before .before .before .before .before .before .before .before in
     skips-once (s .args .m) (now (s .args .main)) (now (s .args .ports)) (q .before .before .w .given .0 .0) (q .decode .result) (in-range q) (s .pre .1 .1) (sym (q .before .before .before .before .fetch .ensures) ∙ q .before .before .w .given .1) (q .decode .ensures) (now (s .args .trail)) (s .args .used) (ap part-of (c .before .before .before .before .enum-told6 .given .1)) (c .before .before .finish-flags3 .ensures (ram (now (s .args .main)) (now (s .args .ports))))
-
-same-length-16 : tie.Need-same-length-16
-same-length-16 c = search needs
 
 same-length-17 : tie.Need-same-length-17
 same-length-17 c = search needs
@@ -212,11 +244,26 @@ same-length-17 c = search needs
 same-length-18 : tie.Need-same-length-18
 same-length-18 c = search needs
 
-returns-9 : tie.Need-returns-9
-returns-9 c =
+same-length-19 : tie.Need-same-length-19
+same-length-19 c = search needs
+
+returns-10 : tie.Need-returns-10
+returns-10 c =
     let q = c .before .before .before .before .before .before .before .before .before .before .before .before .before .before in
     let s = q .before .before .before .before .before .before .before .before .before in
-    computes-once (s .args .m) (now (s .args .main)) (now (s .args .ports)) (q .before .before .w .given .0 .0) (q .decode .result) (in-range q) (s .pre .1 .1) (sym (q .before .before .before .before .fetch .ensures) ∙ q .before .before .w .given .1) (q .decode .ensures) (now (s .args .trail)) (s .args .used) (ap part-of (c .before .before .before .before .before .before .before .before .before .before .before .enum-told7 .given .1)) (c .before .before .before .before .before .before .before .before .operand .ensures) (c .before .before .before .before .before .before .r2 .given .1) (c .before .before .before .before .alu .ensures) (c .before .before .deliver .ensures (ram (now (s .args .main)) (now (s .args .ports))))
+    computes-once (s .args .m) (now (s .args .main)) (now (s .args .ports)) (q .before .before .w .given .0 .0) (q .decode .result) (in-range q) (s .pre .1 .1) (sym (q .before .before .before .before .fetch .ensures) ∙ q .before .before .w .given .1) (q .decode .ensures) (now (s .args .trail)) (s .args .used) (c .before .before .before .before .before .before .before .before .before .before .before .enum-told7 .given .1) (c .before .before .before .before .before .before .before .before .operand .ensures) (c .before .before .before .before .before .before .r2 .given .1) (c .before .before .before .before .alu-register .ensures) (c .before .before .deliver .ensures (ram (now (s .args .main)) (now (s .args .ports))))
+
+same-length-20 : tie.Need-same-length-20
+same-length-20 c = search needs
+
+same-length-21 : tie.Need-same-length-21
+same-length-21 c = search needs
+
+returns-11 : tie.Need-returns-11
+returns-11 c =
+    let q = c .before .before .before .before .before .before .before .before .before .before .before .before .before in
+    let s = q .before .before .before .before .before .before .before .before .before in
+    jumps-once (s .args .m) (now (s .args .main)) (now (s .args .ports)) (q .before .before .w .given .0 .0) (q .decode .result) (in-range q) (s .pre .1 .1) (sym (q .before .before .before .before .fetch .ensures) ∙ q .before .before .w .given .1) (q .decode .ensures) (now (s .args .trail)) (s .args .used) (c .before .before .before .before .before .before .before .before .before .before .enum-told9 .given .1) (c .before .before .before .before .before .before .before .before .constant-or-read2 .ensures) (c .before .before .before .before .before .before .r3 .given .1) (c .before .before .before .before .alu-jump .ensures) (c .before .before .jump .ensures (ram (now (s .args .main)) (now (s .args .ports))))
 
 pub step-once-spec : {M : Type 1} → statement M
 step-once-spec =
@@ -254,22 +301,33 @@ step-once-spec =
     same-length-5
     same-length-6
     returns-4
-    alu-requires
+    alu-register-requires
     deliver-requires
+    enum-told-9
+    constant-or-read-requires-2
+    enum-known-r-3
+    enum-told-10
     same-length-7
-    same-length-8
     returns-5
+    alu-jump-requires
+    jump-requires
+    same-length-8
     same-length-9
-    same-length-10
     returns-6
+    same-length-10
     same-length-11
+    returns-7
     same-length-12
     same-length-13
-    returns-7
     same-length-14
-    same-length-15
     returns-8
+    same-length-15
     same-length-16
+    returns-9
     same-length-17
     same-length-18
-    returns-9)
+    same-length-19
+    returns-10
+    same-length-20
+    same-length-21
+    returns-11)
