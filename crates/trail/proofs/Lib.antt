@@ -10,7 +10,3 @@ pub mod Examples
 pub mod Putting
 pub mod Adding
 pub mod ShortRecords
-pub mod ReadingGroups
-pub mod ReadingNumbers
--- What the walks of the functions over a trail reader rest on.
-pub mod HeldReader

@@ -2,4 +2,3 @@ pub mod Numbers
 pub mod Records
 pub mod OneChange
 pub mod Newest
-pub mod Finding

@@ -7,8 +7,6 @@ use mathlib.Core.Bool.{Bool, true, false, cond}
 use mathlib.Core.List.{List, [], _∷_, _++_}
 use lib.Dec.{ltb, eqb}
 use lib.ListN.{length, take}
-use Rattle.trail.specs.declared.numbers.Number.{Number}
-use Rattle.trail.specs.declared.numbers.Number.the-variants.{Got, Broken}
 
 -- ---- the bytes of a number
 
@@ -65,11 +63,6 @@ GoodIf true bound n = n < bound
 GoodIf false bound n = n ≡ 0
 
 -- ---- what the code says of its bytes
-
--- A number read, with the place after it: the bytes left over end at `end`.
-abbrev pub number-of : ℕ → Read → Number
-number-of end broken = Broken
-number-of end (got n rest) = Got n (end - length rest)
 
 -- The bytes s were put at the place `at`, after those that stood before it, and `next` is the place after them.
 pub record Put (at : ℕ) (s old new : List ℕ) (next : ℕ) : Type 0 where

@@ -1,9 +1,7 @@
-// The trail (document 01, "The trail"): records of old values, each made whole and added right after the bytes in use, and read back from their end.
+// The trail (document 01, "The trail"): records of old values, each made whole and added right after the bytes in use. The crate reading reads them back.
 use machine::Place;
 
 pub mod numbers;
-pub mod reader;
-pub mod reading;
 pub mod records;
 
 // What a record holds: the marks, and the old values. What is not marked is 0.
@@ -36,4 +34,4 @@ pub enum Newest {
 }
 
 // The number that port 0 has as a place; a main address is its own number.
-pub(crate) const FIRST_PORT: u32 = 1_048_576;
+pub const FIRST_PORT: u32 = 1_048_576;

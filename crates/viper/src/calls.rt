@@ -344,8 +344,7 @@ pub fn take_back(
     if used == 0 {
         return answered(m, used, Answer::Refused(Refusal::NothingInUse));
     }
-    let Newest::Record(o, left) = trail::reading::newest(trail, used, main.len(), ports.len())
-    else {
+    let Newest::Record(o, left) = reading::newest(trail, used, main.len(), ports.len()) else {
         return answered(m, used, Answer::Refused(Refusal::BrokenRecord));
     };
     word_restored(o, main, ports);

@@ -1,0 +1,27 @@
+-- What the code says of a number that it read, and of the numbers of a record, read one after another: where one is broken, every place after it
+-- is past the end.
+-- Assumes nothing.
+use Prim.Native.Nat.{ℕ, _+_, _-_}
+use mathlib.Core.Bool.{Bool, cond}
+use mathlib.Core.List.{List}
+use lib.Dec.{ltb}
+use lib.ListN.{length}
+use lib.Seq.{slice}
+use Rattle.trail.specs.Numbers.{Read, got, broken, read-if}
+use Rattle.reading.specs.declared.from_end.Found.{Found}
+use Rattle.reading.specs.declared.numbers.Number.{Number}
+use Rattle.reading.specs.declared.numbers.Number.the-variants.{Got, Broken}
+
+-- A number read, with the place after it: the bytes left over end at `end`.
+abbrev pub number-of : ℕ → Read → Number
+number-of end broken = Broken
+number-of end (got n rest) = Got n (end - length rest)
+
+-- What is read at a place; past the end, nothing.
+abbrev pub read-at : ℕ → ℕ → List ℕ → Bool → ℕ → Read
+read-at at end s marked bound = cond (ltb end at) broken (read-if marked bound (slice at end s))
+
+-- The same of a number of a record.
+abbrev pub found-of : ℕ → Read → Found
+found-of end broken = record { n = 0; next = end + 1 }
+found-of end (got n rest) = record { n = n; next = end - length rest }

@@ -1,0 +1,6 @@
+// The trail read back from the end of the bytes in use (document 01, "The trail"). No trail byte is written here.
+mod from_end;
+mod numbers;
+mod reader;
+
+pub use from_end::newest;
