@@ -70,7 +70,8 @@ pub enum Part {
     Jumps,
 }
 
-// Decides the part by the word, its class, P, the whole address and B. The class tells where a result goes.
+// Decides the part by the word, its class, P, the whole address and B. The class tells where a result goes. The tests go by class; that they come
+// to document 01's order at every class is in proofs/Decision.antt.
 pub fn decide(w: u32, class: u8, p: u32, address: u32, b: bool) -> Part
     requires { ⌜ class ≡ class-of-word w ⌝ }
     ensures { λ r. ⌜ (part-of r ≡ part-by w p address b false) × Classed r class ⌝ }
