@@ -2,11 +2,11 @@
 -- Each law rests on one test, computed over the 1,024 classes.
 -- Assumes nothing.
 use mathlib.Core.Path.{_≡_}
-use mathlib.Core.Bool.{true, _&&_, _||_}
+use mathlib.Core.Bool.{true, _&&_}
 use Prim.Native.Nat.{ℕ, _+_, _≤_}
 use lib.Dec.{eqb, leb}
 use borrow.Author.Tests.{le-leb, eqb-true, leb-true}
-use Rattle.report.specs.Parts.{dsf, fsf, to-p}
+use Rattle.report.specs.Parts.{dsf, fsf, jumping, to-p}
 use Rattle.report.proofs.Finite.{over}
 use Rattle.instruction.specs.Classes.{class-by, class-of-word}
 
@@ -32,20 +32,16 @@ jump-from-3 : (w : ℕ) → (leb 7 (class-of-word w) && leb 3 (dsf w)) ≡ leb 7
 unfolding class-by
 jump-from-3 w = over (λ m d c f. leb 7 (class-by m d c f) && leb 3 d) (λ m d c f. leb 7 (class-by m d c f)) tt w
 
-jump-to-5 : (w : ℕ) → (leb 7 (class-of-word w) && leb (dsf w) 5) ≡ leb 7 (class-of-word w)
-unfolding class-by
-jump-to-5 w = over (λ m d c f. leb 7 (class-by m d c f) && leb d 5) (λ m d c f. leb 7 (class-by m d c f)) tt w
-
 jump-to-p-test : (w : ℕ) → (leb 7 (class-of-word w) && to-p (dsf w)) ≡ leb 7 (class-of-word w)
 unfolding class-by
 jump-to-p-test w = over (λ m d c f. leb 7 (class-by m d c f) && to-p d) (λ m d c f. leb 7 (class-by m d c f)) tt w
 
 function-test : (w : ℕ)
-    → (leb 7 (class-of-word w) && (eqb (fsf w) 1 || (eqb (fsf w) 3 || (eqb (fsf w) 5 || eqb (fsf w) 7))))
+    → (leb 7 (class-of-word w) && jumping (fsf w))
     ≡ leb 7 (class-of-word w)
 unfolding class-by
 function-test w =
-    over (λ m d c f. leb 7 (class-by m d c f) && (eqb f 1 || (eqb f 3 || (eqb f 5 || eqb f 7)))) (λ m d c f. leb 7 (class-by m d c f)) tt w
+    over (λ m d c f. leb 7 (class-by m d c f) && jumping f) (λ m d c f. leb 7 (class-by m d c f)) tt w
 
 -- ---- the laws
 
@@ -58,16 +54,14 @@ pub register-class : (w : ℕ) → 4 ≤ class-of-word w → class-of-word w ≤
 register-class w g h =
     eqb-true (dsf w + 4) (class-of-word w) (rw (le-leb 4 (class-of-word w) g, le-leb (class-of-word w) 6 h) at (register-test w))
 
--- A result for P has dsf 3, 4 or 5.
-pub jump-class : (w : ℕ) → 7 ≤ class-of-word w → (3 ≤ dsf w) × (dsf w ≤ 5)
-jump-class w g =
-    let h = le-leb 7 (class-of-word w) g in
-    (leb-true 3 (dsf w) (rw h at (jump-from-3 w)), leb-true (dsf w) 5 (rw h at (jump-to-5 w)))
+-- A result for P does not go to A, X or Y.
+pub jump-class : (w : ℕ) → 7 ≤ class-of-word w → 3 ≤ dsf w
+jump-class w g = leb-true 3 (dsf w) (rw (le-leb 7 (class-of-word w) g) at (jump-from-3 w))
 
--- The same, as the report's test.
+-- It has dsf 3, 4 or 5.
 pub jump-to-p : (w : ℕ) → 7 ≤ class-of-word w → to-p (dsf w) ≡ true
 jump-to-p w g = rw (le-leb 7 (class-of-word w) g) at (jump-to-p-test w)
 
--- A result for P has the function 1, 3, 5 or 7: the others halt.
-pub jump-function : (w : ℕ) → 7 ≤ class-of-word w → (eqb (fsf w) 1 || (eqb (fsf w) 3 || (eqb (fsf w) 5 || eqb (fsf w) 7))) ≡ true
+-- Its function is 1, 3, 5 or 7: the others halt.
+pub jump-function : (w : ℕ) → 7 ≤ class-of-word w → jumping (fsf w) ≡ true
 jump-function w g = rw (le-leb 7 (class-of-word w) g) at (function-test w)

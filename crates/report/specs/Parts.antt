@@ -98,13 +98,17 @@ shift mf df cf ff = eqb cf 0 && (leb df 5 && eqb ff 12)
 abbrev pub skip : Bool → ℕ → ℕ → ℕ → ℕ → Bool
 skip b mf df cf ff = eqb cf 0 && ((eqb df 5 && b) || (eqb df 4 && not b))
 
+-- The functions known to a destination of P.
+abbrev pub jumping : ℕ → Bool
+jumping ff = eqb ff 1 || (eqb ff 3 || (eqb ff 5 || eqb ff 7))
+
 -- The tests of part 2 with csf 0, which halt whatever the machine holds.
 abbrev pub always-halts : ℕ → ℕ → ℕ → ℕ → Bool
 always-halts mf df cf ff =
     eqb cf 0
     && ((leb df 2 && eqb ff 1)
     || ((leb df 5 && leb 13 ff)
-    || ((leb 3 df && (leb df 5 && not (eqb ff 1 || (eqb ff 3 || (eqb ff 5 || eqb ff 7)))))
+    || ((leb 3 df && (leb df 5 && not (jumping ff)))
     || (leb 6 df && eqb mf 0))))
 
 -- a test on the fields of a word

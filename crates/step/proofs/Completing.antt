@@ -205,7 +205,7 @@ module _ (m : Machine) (main ports : List ℕ) (w : ℕ) (d : Decoded) (g : InRa
   to-p-class q = rw (q, e .class) at (e .classed)
 
   pub jump-dsf : d .part ≡ Jumps → 3 ≤ d .fields .dsf
-  jump-dsf q = rw (e .fields .of-dsf) (jump-class w (to-p-class q) .0)
+  jump-dsf q = rw (e .fields .of-dsf) (jump-class w (to-p-class q))
 
   pub jump-fsf : d .part ≡ Jumps → (eqb (d .fields .fsf) 1 || (eqb (d .fields .fsf) 3 || (eqb (d .fields .fsf) 5 || eqb (d .fields .fsf) 7))) ≡ true
   jump-fsf q = rw (e .fields .of-fsf) (jump-function w (to-p-class q))

@@ -1,13 +1,13 @@
 -- A place of the code and the report's io signal and address name the same word; a fitted place is below its store's length.
 -- Assumes nothing.
-use mathlib.Core.Path.{_≡_, sym, ap, _∙_}
+use mathlib.Core.Path.{_≡_}
 use mathlib.Core.Bool.{Bool, true, false, cond}
 use mathlib.Core.List.{List}
 use Prim.Native.Nat.{ℕ, _<_, _^_}
 use native.Mathlib.Omega.{arith}
 use lib.Dec.{eqb}
 use lib.ListN.{length, getD, set}
-use borrow.Author.Tests.{ltb-true, eq-eqb, ne-eqb}
+use borrow.Author.Tests.{ltb-true}
 use Rattle.report.specs.AnnexA.{Mem}
 use Rattle.report.specs.Parts.{Where, fitted, word-at, with-word}
 use Rattle.machine.specs.Held.{ram, where-of}
@@ -52,16 +52,6 @@ module _ (main ports : List ℕ) (q : Place) where
   port-put n v e = rw e
 
 -- ---- what is to be written
-
-pub addressed-word : (r : Mem) (w : Written) (q : Place) (v : ℕ) → w ≡ written.Word q v → Addressed r w → Fitted r (where-of q)
-addressed-word r w q v e h = rw e at h
-
-pub kept-word : (r : Mem) (w : Written) (q : Place) (v old : ℕ) → w ≡ written.Word q v → old ≡ word-at r (where-of q) → old ≡ v → word.Kept ≡ changing r w
-kept-word r w q v old e h k = rw (e, eq-eqb (word-at r (where-of q)) v (sym h ∙ k))
-
-pub changed-word : (r : Mem) (w : Written) (q : Place) (v old : ℕ) → w ≡ written.Word q v → old ≡ word-at r (where-of q) → (old ≡ v → ⊥) → word.Changed q old ≡ changing r w
-changed-word r w q v old e h k =
-    rw (e, ne-eqb (word-at r (where-of q)) v (λ z. k (h ∙ z))) (ap (λ (n : ℕ). word.Changed q n) h)
 
 -- the record of what is to be written has a lawful place and value
 pub changing-addressed : (r : Mem) (w : Written) → Addressed r w → records.Addressed (changing r w)

@@ -213,7 +213,7 @@ pub(crate) fn finish_y(
     Stepped::Done(after, n)
 }
 
-// Finishes a call, which puts v in Y and jumps to p. It is finish_call once more: each finish has one caller, so that the compiler puts it in line.
+// Finishes a call, which puts v in Y and jumps to p. It is finish_y once more: each finish has one caller, so that the compiler puts it in line.
 pub(crate) fn finish_call(
     m: Machine,
     v: u32,

@@ -17,7 +17,7 @@ use machine::Place;
 use machine::PortNumber;
 use word::AluResult;
 ghost use mathlib.Core.Path.{_≡_};
-ghost use mathlib.Core.Bool.{false, cond};
+ghost use mathlib.Core.Bool.{false};
 ghost use Prim.Native.Nat.{_+_, _%_, _≤_, _<_, _^_};
 ghost use lib.Dec.{eqb};
 ghost use lib.ListN.{length};
@@ -140,13 +140,6 @@ fn place_of(class: u8, at: u32) -> Place
         return Place::Port(PortNumber(at));
     }
     Place::Main(MainAddress(at))
-}
-
-// The first of two values, if it is chosen.
-pub fn choose(first: bool, a: u32, b: u32) -> u32
-    ensures { λ r. ⌜ r ≡ cond first a b ⌝ }
-{
-    if first { a } else { b }
 }
 
 // Finishes with a result for A, X or Y, which are the classes 4, 5 and 6.

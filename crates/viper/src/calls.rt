@@ -14,13 +14,13 @@ use step::finish::Stepped;
 use step::finish::changed_to;
 use step::finish::put_word;
 use step::finish::word_at;
-use step::phases::choose;
 use step::phases::step_once;
 use trail::Added;
 use trail::Newest;
 use trail::OldValues;
 use trail::Word;
 ghost use mathlib.Core.Path.{_≡_};
+ghost use mathlib.Core.Bool.{cond};
 ghost use mathlib.Core.List.{List};
 ghost use Prim.Native.Nat.{ℕ, _≤_, _<_, _^_};
 ghost use lib.ListN.{length};
@@ -280,6 +280,13 @@ pub fn set(
         used: n,
         answer: Answer::Done,
     }
+}
+
+// The first of two values, if it is chosen.
+fn choose(first: bool, a: u32, b: u32) -> u32
+    ensures { λ r. ⌜ r ≡ cond first a b ⌝ }
+{
+    if first { a } else { b }
 }
 
 // The machine with the old values of a record: what is not marked stays.

@@ -7,7 +7,7 @@ use native.Mathlib.Omega.{arith}
 use lib.Dec.{eqb}
 use borrow.Author.Tests.{eqb-true, ne-eqb}
 use Rattle.report.specs.Section3.{ALU, INVALID}
-use Rattle.report.specs.Parts.{computed, to-p}
+use Rattle.report.specs.Parts.{computed, jumping, to-p}
 use Rattle.report.proofs.Readings.{alu-is}
 
 -- dsf 0, 1 and 2 are A, X and Y
@@ -27,7 +27,7 @@ only-3 false false false true e p q z = absurd (true≢false q)
 only-3 false false false false e p q z = e
 
 -- the functions 1 and 3 give M to P
-pub jump-to-m : (ff mf df r m : ℕ) (b : Bool) → (eqb ff 1 || (eqb ff 3 || (eqb ff 5 || eqb ff 7))) ≡ true
+pub jump-to-m : (ff mf df r m : ℕ) (b : Bool) → jumping ff ≡ true
     → (ff ≡ 5 → ⊥) → (ff ≡ 7 → ⊥) → to-p df ≡ true → ALU (ff, mf, df, r, m, b) ≡ (m, b, INVALID m)
 unfolding ALU
 jump-to-m ff mf df r m b e n5 n7 h = go (eqb ff 1) refl

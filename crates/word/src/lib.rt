@@ -1,10 +1,9 @@
 // Arithmetic on words of 32 bits: sums, comparisons, shifts and the ALU, each the report's own function (pages 10 to 16, tables 5 and 6).
 ghost use mathlib.Core.Path.{_≡_};
-ghost use mathlib.Core.Bool.{true, false, _||_};
+ghost use mathlib.Core.Bool.{true, false};
 ghost use Prim.Native.Nat.{ℕ, _<_};
-ghost use lib.Dec.{eqb};
 ghost use Rattle.report.specs.Section3.{ADD32, SUB32, COMPARE, RIGHT, LEFT, RIGHTARITH, INVALID, ALU};
-ghost use Rattle.report.specs.Parts.{signed as signed·of, less as less·than, shifted, to-p};
+ghost use Rattle.report.specs.Parts.{signed as signed·of, less as less·than, shifted, jumping, to-p};
 ghost use Rattle.word.specs.Triples.{sum-triple, result-triple};
 ghost use mir.Syntax.{w32};
 ghost use mir.Val.{ofZ};
@@ -262,7 +261,7 @@ pub fn alu_register(fsf: u32, msf: u32, r: u32, m: u32, b: bool) -> AluResult
 
 // Table 6A where the result goes to P, which takes the functions 1, 3, 5 and 7 alone.
 pub fn alu_jump(fsf: u32, r: u32, m: u32, b: bool) -> AluResult
-    requires { ⌜ (eqb fsf 1 || (eqb fsf 3 || (eqb fsf 5 || eqb fsf 7))) ≡ true ⌝ }
+    requires { ⌜ jumping fsf ≡ true ⌝ }
     ensures { λ x. ⌜ ((msf dsf : ℕ) → to-p dsf ≡ true → result-triple x ≡ ALU (fsf, msf, dsf, r, m, b)) ⌝ }
 {
     match fsf {
