@@ -1,3 +1,3 @@
 pub mod Classes
 pub mod Fields
-pub mod PartOf
+pub mod Sources

@@ -4,13 +4,10 @@ mod class;
 pub use class::class_of;
 pub use class::class_table;
 ghost use mathlib.Core.Path.{_≡_};
-ghost use mathlib.Core.Bool.{false};
 ghost use Prim.Native.Nat.{_<_, _^_};
-ghost use Rattle.report.specs.Section3.{REG, OFFSET};
-ghost use Rattle.report.specs.Parts.{part-by};
 ghost use Rattle.instruction.specs.Fields.{Fielded};
-ghost use Rattle.instruction.specs.Classes.{Classified, class-of-word};
-ghost use Rattle.instruction.specs.PartOf.{part-of, Classed};
+ghost use lib.ListN.{getD};
+ghost use Rattle.instruction.specs.Sources.{register-of, address-of};
 
 // The fields of a word (table 1). csf stands in its class.
 pub struct Fields {
@@ -34,79 +31,23 @@ pub fn take_apart(w: u32) -> Fields
     }
 }
 
-// R by rsf (table 2): A, X, Y, or n, which is P + 1.
-pub fn register(rsf: u32, a: u32, x: u32, y: u32, n: u32) -> u32
-    requires { ⌜ n < 2 ^ 20 ⌝ }
-    ensures { λ r. ⌜ r ≡ REG (rsf, a, x, y, n) ⌝ }
+// R by rsf (table 2). The sources are A, X, Y and N, which is P + 1, in the order of rsf.
+pub fn register(rsf: u32, sources: &[u32; 4]) -> u32
+    requires { ⌜ (rsf < 4) × (getD (now sources) 3 0 < 2 ^ 20) ⌝ }
+    ensures { λ r. ⌜ r ≡ register-of rsf (now (sources .entry)) ⌝ }
 {
-    if rsf < 2 {
-        if rsf < 1 { a } else { x }
-    } else {
-        if rsf < 3 { y } else { n }
-    }
+    let k = rsf as usize;
+    sources[k]
 }
 
-// The address by msf (table 3), all 32 bits of it.
-pub fn address(msf: u32, addr: u32, x: u32, y: u32) -> u32
-    requires { ⌜ addr < 2 ^ 20 ⌝ }
-    ensures { λ r. ⌜ r ≡ OFFSET (msf, addr, x, y) ⌝ }
+// The address by msf (table 3), all 32 bits of it: 2 adds X, the second of the sources, and 3 adds Y, the third.
+pub fn address(msf: u32, addr: u32, sources: &[u32; 4]) -> u32
+    requires { ⌜ (msf < 4) × (addr < 2 ^ 20) × (getD (now sources) 1 0 < 2 ^ 32) × (getD (now sources) 2 0 < 2 ^ 32) ⌝ }
+    ensures { λ r. ⌜ r ≡ address-of msf addr (now (sources .entry)) ⌝ }
 {
-    match msf {
-        0 => addr,
-        1 => addr,
-        2 => std::num::wrapping_add_u32(addr, x),
-        _ => std::num::wrapping_add_u32(addr, y),
+    if msf < 2 {
+        return addr;
     }
-}
-
-// The part of document 01's order that a word comes to on a machine that is not stopped.
-// Its part 6 is two here: Computes is a result for A, X or Y, and Jumps one for P.
-pub enum Part {
-    Halts,
-    Compares,
-    Writes,
-    Skips,
-    Computes,
-    Jumps,
-}
-
-// Decides the part by the word, its class, P, the whole address and B. The class tells where a result goes. The tests go by class; that they come
-// to document 01's order at every class is in proofs/Decision.antt.
-pub fn decide(w: u32, class: u8, p: u32, address: u32, b: bool) -> Part
-    requires { ⌜ class ≡ class-of-word w ⌝ }
-    ensures { λ r. ⌜ (part-of r ≡ part-by w p address b false) × Classed r class ⌝ }
-{
-    if p == 0xF_FFFF {
-        return Part::Halts;
-    }
-    if class >= 7 {
-        if (class == 8) & !b {
-            return Part::Skips;
-        }
-        if (class == 9) & b {
-            return Part::Skips;
-        }
-        if address >= 0x10_0000 {
-            return Part::Halts; // a jump is no shift
-        }
-        return Part::Jumps;
-    }
-    if class >= 4 {
-        if address >= 0x10_0000 {
-            if w / 0x10_0000 % 16 != 12 {
-                return Part::Halts;
-            }
-        }
-        return Part::Computes;
-    }
-    if class == 1 {
-        return Part::Halts;
-    }
-    if address >= 0x10_0000 { // a comparison or a write
-        return Part::Halts;
-    }
-    if class == 0 {
-        return Part::Compares;
-    }
-    Part::Writes
+    let k = (msf - 1) as usize;
+    std::num::wrapping_add_u32(addr, sources[k])
 }

@@ -1,17 +1,22 @@
 -- The finish of a step: the old values that the code puts into a record, at most one register or one word, are those of the operation; and so
--- the answer, the stores and the trail are those of the change finished.
+-- the answer, the stores and the trail are those of the change finished. Then each way through the phases: it ends in the change that NEXT
+-- makes, or in refusal 5.
 -- Assumes nothing.
 use mathlib.Core.Path.{_≡_, refl, sym, ap, _∙_}
-use mathlib.Core.Bool.{Bool, true, false, cond, _||_, true≢false}
-use mathlib.Core.List.{List}
-use Prim.Native.Nat.{ℕ, _+_, _%_, _^_, _<_, _≤_}
+use mathlib.Core.Bool.{Bool, true, false, not, cond, _&&_, true≢false}
+use mathlib.Core.List.{List, [], _∷_}
+use Prim.Native.Nat.{ℕ, zero, suc, _+_, _%_, _^_, _<_, _≤_}
 use native.Mathlib.Omega.{arith}
-use lib.Dec.{eqb}
-use lib.ListN.{length}
-use borrow.Author.Tests.{eq-eqb, ne-eqb}
+use native.Mathlib.Nat.{mod-eq-of-lt}
+use lib.Dec.{eqb, leb, ltb}
+use lib.ListN.{length, getD, set, length-set}
+use lib.Seq.{getD-set-same, getD-set-other}
+use borrow.Author.Tests.{eq-eqb, ne-eqb, eqb-true, le-leb, lt-leb, leb-true}
 use Rattle.report.specs.AnnexA.{Mem}
-use Rattle.report.specs.Section3.{Triple, COMPARE, ALU}
-use Rattle.report.specs.Parts.{fitted, word-at, to-p, Part, halts, compares, writes, skips, computes, InRange}
+use Rattle.report.specs.Section3.{Triple, REG, OFFSET, COMPARE, ALU}
+use Rattle.report.specs.Parts.{fitted, word-at, bad, top, fsf, dsf, jumping, to-p, Part, halts, compares, writes, skips, computes, part-by, InRange}
+use Rattle.report.proofs.Readings.{offset-is}
+use Rattle.report.specs.Parts as parts
 use Rattle.machine.specs.Held.{ram, state, where-of, place-by}
 use Rattle.machine.specs.declared.Machine.{Machine}
 use Rattle.machine.specs.declared.Place.{Place}
@@ -21,63 +26,67 @@ use Rattle.trail.specs.declared.OldValues.{OldValues}
 use Rattle.trail.specs.declared.Added.{Added}
 use Rattle.trail.specs.declared.Added.the-variants.{Used, Full}
 use Rattle.trail.specs.declared.Word.{Word}
-use Rattle.trail.specs.declared.Word.the-variants.{Kept}
-use Rattle.step.specs.declared.finish.Stepped.the-variants as stepped
-use Rattle.instruction.specs.PartOf.{part-of, Classed}
+use Rattle.trail.specs.declared.Word.the-variants as word
 use Rattle.instruction.specs.Classes.{class-of-word}
-use Rattle.instruction.specs.declared.Part.the-variants.{Writes, Computes, Jumps}
-use Rattle.instruction.proofs.Destinations.{write-class, register-class, jump-class, jump-to-p, jump-function}
 use Rattle.instruction.specs.declared.Fields.{Fields}
-use Rattle.step.specs.declared.phases.Decoded.{Decoded}
+use Rattle.instruction.proofs.Decision.{decided, decided-is}
+use Rattle.instruction.proofs.Destinations.{write-class, register-class, jump-class, jump-to-p, jump-function}
+use Rattle.step.specs.declared.finish.Stepped.{Stepped}
+use Rattle.step.specs.declared.finish.Stepped.the-variants as stepped
 use Rattle.step.specs.declared.phases.Fetched.the-variants as fetch
-use Rattle.step.specs.declared.phases.Operands.the-variants.{Held, Unfitted}
-use Rattle.step.specs.declared.phases.Operands.{Operands}
+use Rattle.step.specs.declared.phases.Operand.{Operand}
+use Rattle.step.specs.declared.phases.Operand.the-variants as operand
 use Rattle.step.specs.Phases as phases
-use Rattle.step.specs.Phases.{Change, alone, fetched, Decodes, constant-or, write-to, operands-of, delivered, executed}
-use Rattle.step.specs.Finishing.{changed-to, changing, rewritten, End, ended, ended-by, completed, by-plan, once}
-use Rattle.step.proofs.Planning.{not-fetched, no-operands, executed-plan}
+use Rattle.step.specs.Phases.{held, Change, alone, fetched, next-p, Decodes, constant-or, operand-of, Held, Unfitted, Operands, constant-or-word, write-to, operands-of, delivered, executed}
+use Rattle.step.specs.Finishing as came·is
+use Rattle.step.specs.Finishing.{changed-to, changing, rewritten, Kept, came, End, ended, ended-by, completed, by-plan, once}
+use Rattle.step.proofs.Planning.{phases-plan, plan-from, not-fetched}
 use Rattle.step.proofs.Stores.{finish-full, finish-done}
 
 -- ---- old values
 
--- The machine with other P, B and STOP.
-abbrev pub with-flags-of : Machine → ℕ → Bool → Bool → Machine
-with-flags-of m p b stop = record { a = m .a; x = m .x; y = m .y; p = p; b = b; stop = stop }
-
-pub kept-values : (m : Machine) (p : ℕ) (b stop : Bool) (w : Word) → registers-kept (m .p) (m .b) (m .stop) w ≡ old-values m (with-flags-of m p b stop) w
+pub kept-values : (g : List ℕ) (p₀ p : ℕ) (b₀ b stop : Bool) (w : Word) → registers-kept p₀ b₀ false w ≡ old-values (held g p₀ b₀ false) (held g p b stop) w
 unfolding old-values
-kept-values m p b stop w = rw (eq-eqb (m .a) (m .a) refl, eq-eqb (m .x) (m .x) refl, eq-eqb (m .y) (m .y) refl)
+kept-values g p₀ p b₀ b stop w = rw (eq-eqb (getD g 0 0) (getD g 0 0) refl, eq-eqb (getD g 1 0) (getD g 1 0) refl, eq-eqb (getD g 2 0) (getD g 2 0) refl)
 
-module _ (m : Machine) (v p : ℕ) (b stop : Bool) where
-  abbrev pub with-a : Machine
-  with-a = record { a = v; x = m .x; y = m .y; p = p; b = b; stop = stop }
+-- The weight of a register's mark.
+abbrev pub weight : ℕ → ℕ
+weight k = cond (eqb k 0) 1 (cond (eqb k 1) 2 4)
 
-  abbrev pub with-x : Machine
-  with-x = record { a = m .a; x = v; y = m .y; p = p; b = b; stop = stop }
+pub register-values : (g : List ℕ) (k v p₀ p : ℕ) (b₀ b stop : Bool) → 2 < length g → k < 3 → (getD g k 0 ≡ v → ⊥)
+    → register-changed (weight k) p₀ b₀ false (getD g k 0) ≡ old-values (held g p₀ b₀ false) (held (set g k v) p b stop) word.Kept
+unfolding old-values
+register-values g zero v p₀ p b₀ b stop l h q =
+    rw (getD-set-same g 0 v 0 (omega arith), getD-set-other g 0 1 v 0 (λ e. omega arith), getD-set-other g 0 2 v 0 (λ e. omega arith), ne-eqb (getD g 0 0) v q, eq-eqb (getD g 1 0) (getD g 1 0) refl, eq-eqb (getD g 2 0) (getD g 2 0) refl)
+register-values g (suc zero) v p₀ p b₀ b stop l h q =
+    rw (getD-set-same g 1 v 0 (omega arith), getD-set-other g 1 0 v 0 (λ e. omega arith), getD-set-other g 1 2 v 0 (λ e. omega arith), eq-eqb (getD g 0 0) (getD g 0 0) refl, ne-eqb (getD g 1 0) v q, eq-eqb (getD g 2 0) (getD g 2 0) refl)
+register-values g (suc (suc zero)) v p₀ p b₀ b stop l h q =
+    rw (getD-set-same g 2 v 0 (omega arith), getD-set-other g 2 0 v 0 (λ e. omega arith), getD-set-other g 2 1 v 0 (λ e. omega arith), eq-eqb (getD g 0 0) (getD g 0 0) refl, eq-eqb (getD g 1 0) (getD g 1 0) refl, ne-eqb (getD g 2 0) v q)
+register-values g (suc (suc (suc k))) v p₀ p b₀ b stop l h q = absurd (omega arith)
 
-  abbrev pub with-y : Machine
-  with-y = record { a = m .a; x = m .x; y = v; p = p; b = b; stop = stop }
+-- Sources that nobody wrote are kept.
+pub kept-same : (a : Stepped) (g : List ℕ) → Kept a g g
+kept-same (stepped.Done p b stop n) g = refl
+kept-same stepped.Unfitted g = refl
+kept-same stepped.Full g = refl
 
-  pub a-values : (m .a ≡ v → ⊥) → register-changed 1 (m .p) (m .b) (m .stop) (m .a) ≡ old-values m with-a Kept
-  unfolding old-values
-  a-values h = rw (ne-eqb (m .a) v h, eq-eqb (m .x) (m .x) refl, eq-eqb (m .y) (m .y) refl)
+-- N, the fourth of the sources, is no part of the machine.
+pub fourth : (g : List ℕ) (n p : ℕ) (b stop : Bool) → held (set g 3 n) p b stop ≡ held g p b stop
+fourth g n p b stop = rw (getD-set-other g 3 0 n 0 (λ e. omega arith), getD-set-other g 3 1 n 0 (λ e. omega arith), getD-set-other g 3 2 n 0 (λ e. omega arith))
 
-  pub x-values : (m .x ≡ v → ⊥) → register-changed 2 (m .p) (m .b) (m .stop) (m .x) ≡ old-values m with-x Kept
-  unfolding old-values
-  x-values h = rw (eq-eqb (m .a) (m .a) refl, ne-eqb (m .x) v h, eq-eqb (m .y) (m .y) refl)
-
-  pub y-values : (m .y ≡ v → ⊥) → register-changed 4 (m .p) (m .b) (m .stop) (m .y) ≡ old-values m with-y Kept
-  unfolding old-values
-  y-values h = rw (eq-eqb (m .a) (m .a) refl, eq-eqb (m .x) (m .x) refl, ne-eqb (m .y) v h)
+pub kept-before : (a : Stepped) (g g′ : List ℕ) (n : ℕ) → Kept a (set g 3 n) g′ → Kept a g g′
+kept-before (stepped.Done p b stop k) g g′ n h = h ∙ length-set g 3 n
+kept-before stepped.Unfitted g g′ n h = sym (fourth g n 0 false false) ∙ h
+kept-before stepped.Full g g′ n h = sym (fourth g n 0 false false) ∙ h
 
 -- ---- the change finished, by the record that was added
 
 module _ (m : Machine) (c : Change) (r : Mem) (t : List ℕ) (used : ℕ) (w : Word) (o : OldValues) (a : Added) (t′ : List ℕ)
     (hw : w ≡ changing r (c .written)) (ho : o ≡ old-values m (c .machine) w) (ha : (a, t′) ≡ added t used (record-bytes o)) where
-  pub completes-full : a ≡ Full → ended stepped.Full r t′ ≡ completed m c r t used
+  pub completes-full : a ≡ Full → ended came·is.NoRoom r t′ ≡ completed m c r t used
   completes-full e = ap (ended-by (c .machine)) (finish-full m c r t used w o a t′ hw ho ha e)
 
-  pub completes : (n : ℕ) (r′ : Mem) → a ≡ Used n → r′ ≡ rewritten r (c .written) → ended (stepped.Done (c .machine) n) r′ t′ ≡ completed m c r t used
+  pub completes : (n : ℕ) (r′ : Mem) → a ≡ Used n → r′ ≡ rewritten r (c .written) → ended (came·is.Done (c .machine) n) r′ t′ ≡ completed m c r t used
   completes n r′ e h = ap (ended-by (c .machine)) (finish-done m c r t used w o a t′ hw ho ha n r′ e h)
 
 -- A word that was read before it is written over.
@@ -86,37 +95,36 @@ written-over r q old v e = ap (λ (n : ℕ). changed-to q n v) e
 
 -- ---- a result at its destination
 
-module _ (m : Machine) (f : Fields) (n v : ℕ) (b s : Bool) where
-  pub to-a : f .dsf ≡ 0 → delivered m f n (v, b, s) ≡ with-a m v n b s
+-- The number of a register: 0, 1 or 2.
+module _ (g : List ℕ) (p : ℕ) (b₀ : Bool) (f : Fields) (n v : ℕ) (b s : Bool) (long : 2 < length g) where
+  pub to-register : f .dsf < 3 → delivered (held g p b₀ false) f n (v, b, s) ≡ held (set g (f .dsf) v) n b s
   unfolding delivered
-  to-a h = rw (eq-eqb (f .dsf) 0 h)
+  to-register low = go (f .dsf) refl low
+    where
+      go : (k : ℕ) → f .dsf ≡ k → k < 3 → delivered (held g p b₀ false) f n (v, b, s) ≡ held (set g k v) n b s
+      go zero e h = rw (e, getD-set-same g 0 v 0 (omega arith), getD-set-other g 0 1 v 0 (λ e. omega arith), getD-set-other g 0 2 v 0 (λ e. omega arith))
+      go (suc zero) e h = rw (e, getD-set-same g 1 v 0 (omega arith), getD-set-other g 1 0 v 0 (λ e. omega arith), getD-set-other g 1 2 v 0 (λ e. omega arith))
+      go (suc (suc zero)) e h = rw (e, getD-set-same g 2 v 0 (omega arith), getD-set-other g 2 0 v 0 (λ e. omega arith), getD-set-other g 2 1 v 0 (λ e. omega arith))
+      go (suc (suc (suc k))) e h = absurd (omega arith)
 
-  pub to-x : f .dsf ≡ 1 → delivered m f n (v, b, s) ≡ with-x m v n b s
-  unfolding delivered
-  to-x h = rw h
-
-  pub to-y : f .dsf ≡ 2 → delivered m f n (v, b, s) ≡ with-y m v n b s
-  unfolding delivered
-  to-y h = rw h
-
-  module _ (h : 3 ≤ f .dsf) where
-    pub calls : f .fsf ≡ 1 → delivered m f n (v, b, s) ≡ with-y m n (v % 2 ^ 20) b s
+  module _ (high : 3 ≤ f .dsf) where
+    pub calls : f .fsf ≡ 1 → delivered (held g p b₀ false) f n (v, b, s) ≡ held (set g 2 n) (v % 2 ^ 20) b s
     unfolding delivered
-    calls k = rw (ne-eqb (f .dsf) 0 (λ z. omega arith), ne-eqb (f .dsf) 1 (λ z. omega arith), ne-eqb (f .dsf) 2 (λ z. omega arith), eq-eqb (f .fsf) 1 k)
+    calls k =
+        rw (ne-eqb (f .dsf) 0 (λ z. omega arith), ne-eqb (f .dsf) 1 (λ z. omega arith), ne-eqb (f .dsf) 2 (λ z. omega arith), eq-eqb (f .fsf) 1 k, getD-set-same g 2 n 0 (omega arith), getD-set-other g 2 0 n 0 (λ e. omega arith), getD-set-other g 2 1 n 0 (λ e. omega arith))
 
-    pub jumps : (f .fsf ≡ 1 → ⊥) → delivered m f n (v, b, s) ≡ with-flags-of m (v % 2 ^ 20) b s
+    pub jumps : (f .fsf ≡ 1 → ⊥) → delivered (held g p b₀ false) f n (v, b, s) ≡ held g (v % 2 ^ 20) b s
     unfolding delivered
     jumps k = rw (ne-eqb (f .dsf) 0 (λ z. omega arith), ne-eqb (f .dsf) 1 (λ z. omega arith), ne-eqb (f .dsf) 2 (λ z. omega arith), ne-eqb (f .fsf) 1 k)
 
 -- The functions of a jump read main memory or have a constant.
-jump-operands : (f : Fields) (at r : ℕ) (main ports : List ℕ) → (eqb (f .fsf) 1 || (eqb (f .fsf) 3 || (eqb (f .fsf) 5 || eqb (f .fsf) 7))) ≡ true
-    → operands-of computes f at r main ports ≡ constant-or f main at r
+jump-operands : (f : Fields) (at r : ℕ) (main ports : List ℕ) → jumping (f .fsf) ≡ true → operands-of computes f at r main ports ≡ constant-or-word f main at r
 unfolding operands-of
 jump-operands f at r main ports h =
     rw (ne-eqb (f .fsf) 12 (λ e. true≢false (sym (rw e at h))), ne-eqb (f .fsf) 2 (λ e. true≢false (sym (rw e at h))))
 
 -- A write is held exactly when its place is fitted.
-pub write-operands : (f : Fields) (at r : ℕ) (main ports : List ℕ) (t : Bool) → fitted (ram main ports) (where-of (place-by (eqb (f .dsf) 6) at)) ≡ t
+write-operands : (f : Fields) (at r : ℕ) (main ports : List ℕ) (t : Bool) → fitted (ram main ports) (where-of (place-by (eqb (f .dsf) 6) at)) ≡ t
     → operands-of writes f at r main ports ≡ cond t (Held r 0) Unfitted
 unfolding operands-of fitted
 write-operands f at r main ports t h = go (eqb (f .dsf) 6) h
@@ -127,102 +135,263 @@ write-operands f at r main ports t h = go (eqb (f .dsf) 6) h
 
 -- ---- one step
 
+-- The word at P is lacking.
+pub fetch-lacking : (m : Machine) (main ports trail : List ℕ) (used : ℕ) → fetched main (m .p) ≡ fetch.Unfitted → ended came·is.Unfitted (ram main ports) trail ≡ once m (ram main ports) trail used
+fetch-lacking m main ports trail used h = ap (by-plan m (ram main ports) trail used) (not-fetched m main ports h)
+
+-- P is FFFFF: N does not fit P, whatever the word.
+pub top-once : (g : List ℕ) (p : ℕ) (b : Bool) (main ports : List ℕ) → InRange (state (held g p b false) (ram main ports)) → p < length main → (trail : List ℕ) (used : ℕ)
+    → {x : End} → p ≡ 0xFFFFF → x ≡ completed (held g p b false) (alone (held g 0 b true)) (ram main ports) trail used → x ≡ once (held g p b false) (ram main ports) trail used
+unfolding operands-of executed decided
+top-once g p b main ports range has trail used e h =
+    let m = held g p b false in
+    let w = getD main p 0 in
+    let f : Fields = record { rsf = parts.rsf w; msf = parts.msf w; dsf = dsf w; fsf = fsf w; addr = parts.addr w } in
+    let k : part-by w p (OFFSET (parts.msf w, parts.addr w, m .x, m .y)) b false ≡ halts = rw (decided-is w p (OFFSET (parts.msf w, parts.addr w, m .x, m .y)) b, eq-eqb p 0xFFFFF e) in
+    let z = phases-plan m main ports f halts range refl has (record { of-rsf = refl; of-msf = refl; of-dsf = refl; of-fsf = refl; of-addr = refl }) k in
+    let n : next-p m ≡ 0 = rw e in
+    h ∙ (ap (λ (k : ℕ). completed m (alone (held g k b true)) (ram main ports) trail used) (sym n) ∙ ap (by-plan m (ram main ports) trail used) z)
+
 -- The word at P decoded, on a machine that is not stopped.
-module _ (m : Machine) (main ports : List ℕ) (w : ℕ) (d : Decoded) (g : InRange (state m (ram main ports))) (live : m .stop ≡ false) (f : fetched main (m .p) ≡ fetch.Word w)
-    (e : Decodes m w d) (trail : List ℕ) (used : ℕ) where
+module _ (g : List ℕ) (p : ℕ) (b : Bool) (main ports : List ℕ) (f : Fields) (class r : ℕ) (range : InRange (state (held g p b false) (ram main ports)))
+    (D : Decodes (held g p b false) main f class r) (trail : List ℕ) (used : ℕ) where
+  abbrev m : Machine
+  m = held g p b false
+
+  abbrev w : ℕ
+  w = getD main p 0
+
+  abbrev at : ℕ
+  at = OFFSET (f .msf, f .addr, m .x, m .y)
+
+  -- the step that changes P, B and STOP alone
+  abbrev flagged : ℕ → Bool → Bool → End
+  flagged n t stop = completed m (alone (held g n t stop)) (ram main ports) trail used
+
+  abbrev step : End
+  step = once m (ram main ports) trail used
+
+  next-is : next-p m ≡ p + 1
+  next-is = mod-eq-of-lt (D .low)
+
+  not-top : top p ≡ false
+  not-top = ne-eqb p 0xFFFFF (λ e. omega (arith, D .low))
+
+  part-is : part-by w p at b false ≡ decided class (eqb (f .fsf) 12) (top p) (bad at) b
+  part-is = rw (D .classed, D .fields .of-fsf) (decided-is w p at b)
+
   -- R and M are held: what the part does is done.
-  pub once-held : (k : Part) → part-of (d .part) ≡ k → {r v : ℕ} → operands-of k (d .fields) (d .address) (d .r) main ports ≡ Held r v
-      → once m (ram main ports) trail used ≡ completed m (executed k (d .fields) (d .address) m r v) (ram main ports) trail used
-  once-held k q {r} {v} h =
-      sym (ap (by-plan m (ram main ports) trail used) (executed-plan m main ports w d g live f e (Held r v) r v (executed k (d .fields) (d .address) m r v) (sym h ∙ rw (q, e .r)) refl (rw q)))
+  held-once : (k : Part) → decided class (eqb (f .fsf) 12) (top p) (bad at) b ≡ k → {r′ v : ℕ} → operands-of k f at r main ports ≡ Held r′ v
+      → completed m (executed k f at m r′ v) (ram main ports) trail used ≡ step
+  held-once k q {r′} {v} h =
+      let z : plan-from k f at m (operands-of k f at r main ports) ≡ phases.planned (state m (ram main ports)) = rw (D .source) (phases-plan m main ports f k range refl (D .fetches) (D .fields) (part-is ∙ q)) in
+      ap (by-plan m (ram main ports) trail used) (rw h at z)
 
   -- A word is lacking.
-  pub once-lacking : (k : Part) → part-of (d .part) ≡ k → operands-of k (d .fields) (d .address) (d .r) main ports ≡ Unfitted
-      → once m (ram main ports) trail used ≡ ended stepped.Unfitted (ram main ports) trail
-  once-lacking k q h =
-      sym (ap (by-plan m (ram main ports) trail used) (no-operands m main ports w d g live f e Unfitted (sym h ∙ rw (q, e .r)) refl))
+  lacking-once : (k : Part) → decided class (eqb (f .fsf) 12) (top p) (bad at) b ≡ k → operands-of k f at r main ports ≡ Unfitted
+      → ended came·is.Unfitted (ram main ports) trail ≡ step
+  lacking-once k q h =
+      let z : plan-from k f at m (operands-of k f at r main ports) ≡ phases.planned (state m (ram main ports)) = rw (D .source) (phases-plan m main ports f k range refl (D .fetches) (D .fields) (part-is ∙ q)) in
+      ap (by-plan m (ram main ports) trail used) (rw h at z)
 
-  -- ---- each part, by what its phases gave
+  -- ---- M
 
-  pub halts-once : {x : End} → part-of (d .part) ≡ halts → x ≡ completed m (alone (with-flags-of m (d .next) (m .b) true)) (ram main ports) trail used → x ≡ once m (ram main ports) trail used
+  constant-near : eqb (f .msf) 0 ≡ true → bad at ≡ false
+  unfolding parts.address
+  constant-near z =
+      let low : f .addr < 2 ^ 20 = omega (arith, D .fields .of-addr) in
+      rw (offset-is (f .msf) (f .addr) (m .x) (m .y) low (range .x-lt) (range .y-lt), z) (lt-leb (2 ^ 20) (f .addr) low)
+
+  module _ (store : List ℕ) {o : Operand} (e : o ≡ constant-or f at store) where
+    held-told : {v : ℕ} → o ≡ operand.Held v → (bad at ≡ false) × (constant-or-word f store at r ≡ Held r v)
+    held-told {v} h = go (eqb (f .msf) 0) refl (bad at) refl (ltb at (length store)) (sym e ∙ h)
+      where
+        go : (z : Bool) → eqb (f .msf) 0 ≡ z → (d : Bool) → bad at ≡ d → (t : Bool)
+            → cond z (operand.Held (f .addr)) (cond d operand.Bad (cond t (operand.Held (getD store at 0)) operand.Unfitted)) ≡ operand.Held v
+            → (bad at ≡ false) × (cond z (Held r (f .addr)) (cond t (Held r (getD store at 0)) Unfitted) ≡ Held r v)
+        go true z d y t q = (constant-near z, cc)
+        go false z true y t q = let n : _≡_ {A = ℕ} 0 1 = cc in absurd (omega arith)
+        go false z false y true q = (y, cc)
+        go false z false y false q = let n : _≡_ {A = ℕ} 0 1 = cc in absurd (omega arith)
+
+    lacking-told : o ≡ operand.Unfitted → (bad at ≡ false) × (constant-or-word f store at r ≡ Unfitted)
+    lacking-told h = go (eqb (f .msf) 0) (bad at) refl (ltb at (length store)) (sym e ∙ h)
+      where
+        go : (z d : Bool) → bad at ≡ d → (t : Bool)
+            → cond z (operand.Held (f .addr)) (cond d operand.Bad (cond t (operand.Held (getD store at 0)) operand.Unfitted)) ≡ operand.Unfitted
+            → (bad at ≡ false) × (cond z (Held r (f .addr)) (cond t (Held r (getD store at 0)) Unfitted) ≡ Unfitted)
+        go true d y t q = let n : _≡_ {A = ℕ} 0 1 = cc in absurd (omega arith)
+        go false true y t q = let n : _≡_ {A = ℕ} 0 1 = cc in absurd (omega arith)
+        go false false y true q = let n : _≡_ {A = ℕ} 0 1 = cc in absurd (omega arith)
+        go false false y false q = (y, refl)
+
+    bad-told : o ≡ operand.Bad → bad at ≡ true
+    bad-told h = go (eqb (f .msf) 0) (bad at) refl (ltb at (length store)) (sym e ∙ h)
+      where
+        go : (z d : Bool) → bad at ≡ d → (t : Bool)
+            → cond z (operand.Held (f .addr)) (cond d operand.Bad (cond t (operand.Held (getD store at 0)) operand.Unfitted)) ≡ operand.Bad → bad at ≡ true
+        go true d y t q = let n : _≡_ {A = ℕ} 0 1 = cc in absurd (omega arith)
+        go false true y t q = y
+        go false false y true q = let n : _≡_ {A = ℕ} 0 1 = cc in absurd (omega arith)
+        go false false y false q = let n : _≡_ {A = ℕ} 0 1 = cc in absurd (omega arith)
+
+  -- ---- part 2
+
+  halts-once : {x : End} → decided class (eqb (f .fsf) 12) (top p) (bad at) b ≡ halts → x ≡ flagged (p + 1) b true → x ≡ step
   unfolding operands-of executed
-  halts-once q h = h ∙ rw (e .next) (sym (once-held halts q {r = d .r} {v = 0} refl))
+  halts-once q h = h ∙ rw (← next-is) (held-once halts q {r′ = r} {v = 0} refl)
 
-  pub skips-once : {x : End} → part-of (d .part) ≡ skips → x ≡ completed m (alone (with-flags-of m (d .next) (m .b) false)) (ram main ports) trail used → x ≡ once m (ram main ports) trail used
-  unfolding operands-of executed
-  skips-once q h = h ∙ rw (e .next) (sym (once-held skips q {r = d .r} {v = 0} refl))
+  -- ---- class 0, a comparison
 
-  pub compares-once : {x : End} {o : Operands} {r v : ℕ} {b : Bool} → part-of (d .part) ≡ compares → o ≡ constant-or (d .fields) main (d .address) (d .r) → o ≡ Held r v → b ≡ COMPARE (d .fields .fsf, r, v, m .b)
-      → x ≡ completed m (alone (with-flags-of m (d .next) b false)) (ram main ports) trail used → x ≡ once m (ram main ports) trail used
-  unfolding operands-of executed
-  compares-once {x} {o} {r} {v} {b} q h k l z = z ∙ rw (e .next, l) (sym (once-held compares q {r = r} {v = v} (sym h ∙ k)))
+  module _ (k : class ≡ 0) where
+    compares-by : bad at ≡ false → decided class (eqb (f .fsf) 12) (top p) (bad at) b ≡ compares
+    unfolding decided
+    compares-by n = rw (k, not-top, n)
 
-  pub compares-lacking : {o : Operands} → part-of (d .part) ≡ compares → o ≡ constant-or (d .fields) main (d .address) (d .r) → o ≡ Unfitted → ended stepped.Unfitted (ram main ports) trail ≡ once m (ram main ports) trail used
-  unfolding operands-of
-  compares-lacking q h k = sym (once-lacking compares q (sym h ∙ k))
+    module _ {o : Operand} (e : o ≡ constant-or f at main) where
+      pub compares-held : {x : End} {v : ℕ} {t : Bool} → o ≡ operand.Held v → t ≡ COMPARE (f .fsf, r, v, b) → x ≡ flagged (p + 1) t false → x ≡ step
+      unfolding operands-of executed
+      compares-held {x} {v} {t} h c z =
+          let d = held-told main e h in
+          z ∙ rw (← next-is, c) (held-once compares (compares-by (d .0)) {r′ = r} {v = v} (d .1))
 
-  -- Class 3 is the write to a port.
-  place-is : d .part ≡ Writes → place-by (eqb (d .class) 3) (d .address) ≡ place-by (eqb (d .fields .dsf) 6) (d .address)
-  place-is q =
-      let k : Classed Writes (class-of-word w) = rw (q, e .class) at (e .classed) in
-      rw (e .class, e .fields .of-dsf) (ap (λ (t : Bool). place-by t (d .address)) (write-class w (k .0) (k .1)))
+      pub compares-bad : {x : End} → o ≡ operand.Bad → x ≡ flagged (p + 1) b true → x ≡ step
+      unfolding decided
+      compares-bad h z = halts-once (rw (k, not-top, bad-told main e h)) z
 
-  pub writes-once : {x : End} {t : Bool} {place : Place} → d .part ≡ Writes → place ≡ place-by (eqb (d .class) 3) (d .address) → t ≡ fitted (ram main ports) (where-of place) → t ≡ true
-      → x ≡ completed m (record { machine = with-flags-of m (d .next) (m .b) false; written = phases.Word place (d .r) }) (ram main ports) trail used → x ≡ once m (ram main ports) trail used
-  unfolding executed
-  writes-once {x} {t} {place} q i h k z =
-      let j = i ∙ place-is q in
-      z ∙ rw (e .next, j) (sym (once-held writes (ap part-of q) {r = d .r} {v = 0} (write-operands (d .fields) (d .address) (d .r) main ports true (rw (← j) (sym h ∙ k)))))
+      pub compares-lacking : o ≡ operand.Unfitted → ended came·is.Unfitted (ram main ports) trail ≡ step
+      unfolding operands-of
+      compares-lacking h = let d = lacking-told main e h in lacking-once compares (compares-by (d .0)) (d .1)
 
-  pub writes-lacking : {t : Bool} {place : Place} → d .part ≡ Writes → place ≡ place-by (eqb (d .class) 3) (d .address) → t ≡ fitted (ram main ports) (where-of place) → t ≡ false
-      → ended stepped.Unfitted (ram main ports) trail ≡ once m (ram main ports) trail used
-  writes-lacking q i h k =
-      let j = i ∙ place-is q in
-      sym (once-lacking writes (ap part-of q) (write-operands (d .fields) (d .address) (d .r) main ports false (rw (← j) (sym h ∙ k))))
+  -- ---- class 1, which always halts
 
-  -- A result for A, X or Y.
-  pub register : d .part ≡ Computes → (4 ≤ d .class) × (d .class ≤ 6)
-  register q = rw q at (e .classed)
+  pub always-once : {x : End} → class ≡ 1 → x ≡ flagged (p + 1) b true → x ≡ step
+  unfolding decided
+  always-once k z = halts-once (rw (k, not-top)) z
 
-  register-dsf : d .part ≡ Computes → d .fields .dsf + 4 ≡ d .class
-  register-dsf q =
-      let k : Classed Computes (class-of-word w) = rw (q, e .class) at (e .classed) in
-      rw (e .fields .of-dsf, e .class) (register-class w (k .0) (k .1))
+  -- ---- classes 2 and 3, a write
 
-  pub computes-once : {x : End} {o : Operands} {r v : ℕ} {u : Triple} → d .part ≡ Computes → o ≡ operands-of computes (d .fields) (d .address) (d .r) main ports → o ≡ Held r v
-      → ((df : ℕ) → df < 3 → u ≡ ALU (d .fields .fsf, d .fields .msf, df, r, v, m .b))
-      → ((g : Fields) → g .dsf + 4 ≡ d .class → x ≡ completed m (alone (delivered m g (d .next) u)) (ram main ports) trail used) → x ≡ once m (ram main ports) trail used
-  unfolding executed
-  computes-once {x} {o} {r} {v} {u} q h k l z =
-      let low : d .fields .dsf < 3 = omega (arith, register-dsf q, register q) in
-      z (d .fields) (register-dsf q) ∙ rw (e .next, l (d .fields .dsf) low) (sym (once-held computes (ap part-of q) {r = r} {v = v} (sym h ∙ k)))
+  module _ (few : class < 4) (n₀ : class ≡ 0 → ⊥) (n₁ : class ≡ 1 → ⊥) where
+    write-by : {t : Bool} → bad at ≡ t → decided class (eqb (f .fsf) 12) (top p) (bad at) b ≡ cond t halts writes
+    unfolding decided
+    write-by {t} d = rw (not-top, d, lt-leb 7 class (omega arith), lt-leb 4 class few, ne-eqb class 1 n₁, ne-eqb class 0 n₀)
 
-  pub computes-lacking : {o : Operands} → d .part ≡ Computes → o ≡ operands-of computes (d .fields) (d .address) (d .r) main ports → o ≡ Unfitted → ended stepped.Unfitted (ram main ports) trail ≡ once m (ram main ports) trail used
-  computes-lacking q h k = sym (once-lacking computes (ap part-of q) (sym h ∙ k))
+    -- Class 3 is the write to a port.
+    place-is : place-by (eqb class 3) at ≡ place-by (eqb (f .dsf) 6) at
+    place-is =
+        let c = D .classed in
+        rw (c, D .fields .of-dsf) (ap (λ (t : Bool). place-by t at) (write-class w (omega (arith, c)) (omega (arith, c))))
 
-  -- A result for P.
-  to-p-class : d .part ≡ Jumps → 7 ≤ class-of-word w
-  to-p-class q = rw (q, e .class) at (e .classed)
+    pub write-bad : {x : End} → 2 ^ 20 ≤ at → x ≡ flagged (p + 1) b true → x ≡ step
+    write-bad d z = halts-once (write-by (le-leb (2 ^ 20) at d)) z
 
-  pub jump-dsf : d .part ≡ Jumps → 3 ≤ d .fields .dsf
-  jump-dsf q = rw (e .fields .of-dsf) (jump-class w (to-p-class q))
+    module _ {place : Place} (near : at < 2 ^ 20) (i : place ≡ place-by (eqb class 3) at) {t : Bool} (h : t ≡ fitted (ram main ports) (where-of place)) where
+      pub writes-once : {x : End} → t ≡ true → x ≡ completed m (record { machine = held g (p + 1) b false; written = phases.Word place r }) (ram main ports) trail used → x ≡ step
+      unfolding executed
+      writes-once k z =
+          let j = i ∙ place-is in
+          z ∙ rw (← next-is, j) (held-once writes (write-by (lt-leb (2 ^ 20) at near)) {r′ = r} {v = 0} (write-operands f at r main ports true (rw (← j) (sym h ∙ k))))
 
-  pub jump-fsf : d .part ≡ Jumps → (eqb (d .fields .fsf) 1 || (eqb (d .fields .fsf) 3 || (eqb (d .fields .fsf) 5 || eqb (d .fields .fsf) 7))) ≡ true
-  jump-fsf q = rw (e .fields .of-fsf) (jump-function w (to-p-class q))
+      pub writes-lacking : t ≡ false → ended came·is.Unfitted (ram main ports) trail ≡ step
+      writes-lacking k =
+          let j = i ∙ place-is in
+          lacking-once writes (write-by (lt-leb (2 ^ 20) at near)) (write-operands f at r main ports false (rw (← j) (sym h ∙ k)))
 
-  jump-holds : {o o′ : Operands} → d .part ≡ Jumps → o ≡ constant-or (d .fields) main (d .address) (d .r) → o ≡ o′ → operands-of computes (d .fields) (d .address) (d .r) main ports ≡ o′
-  jump-holds q h k = jump-operands (d .fields) (d .address) (d .r) main ports (jump-fsf q) ∙ (sym h ∙ k)
+  -- ---- classes 4, 5 and 6, a result for A, X or Y
 
-  pub jumps-once : {x : End} {o : Operands} {r v : ℕ} {u : Triple} → d .part ≡ Jumps → o ≡ constant-or (d .fields) main (d .address) (d .r) → o ≡ Held r v
-      → ((mf df : ℕ) → to-p df ≡ true → u ≡ ALU (d .fields .fsf, mf, df, r, v, m .b))
-      → x ≡ completed m (alone (delivered m (d .fields) (d .next) u)) (ram main ports) trail used → x ≡ once m (ram main ports) trail used
-  unfolding executed
-  jumps-once {x} {o} {r} {v} {u} q h k l z =
-      z ∙ rw (e .next, l (d .fields .msf) (d .fields .dsf) (rw (e .fields .of-dsf) (jump-to-p w (to-p-class q)))) (sym (once-held computes (ap part-of q) {r = r} {v = v} (jump-holds q h k)))
+  module _ (from : 4 ≤ class) (below : class < 7) where
+    register-dsf : f .dsf + 4 ≡ class
+    register-dsf =
+        let c = D .classed in
+        rw (D .fields .of-dsf, c) (register-class w (omega (arith, c)) (omega (arith, c)))
 
-  pub jumps-lacking : {o : Operands} → d .part ≡ Jumps → o ≡ constant-or (d .fields) main (d .address) (d .r) → o ≡ Unfitted → ended stepped.Unfitted (ram main ports) trail ≡ once m (ram main ports) trail used
-  jumps-lacking q h k = sym (once-lacking computes (ap part-of q) (jump-holds q h k))
+    pub register-low : f .dsf < 3
+    register-low = omega (arith, register-dsf)
 
--- The word at P is lacking.
-pub fetch-lacking : (m : Machine) (main ports trail : List ℕ) (used : ℕ) → fetched main (m .p) ≡ fetch.Unfitted → ended stepped.Unfitted (ram main ports) trail ≡ once m (ram main ports) trail used
-fetch-lacking m main ports trail used h = ap (by-plan m (ram main ports) trail used) (not-fetched m main ports h)
+    computes-by : (eqb (f .fsf) 12 ≡ false → bad at ≡ false) → decided class (eqb (f .fsf) 12) (top p) (bad at) b ≡ computes
+    unfolding decided
+    computes-by d = rw (not-top, lt-leb 7 class below, le-leb 4 class from) (go (eqb (f .fsf) 12) refl (bad at) refl)
+      where
+        go : (t : Bool) → eqb (f .fsf) 12 ≡ t → (u : Bool) → bad at ≡ u → cond u (cond t computes halts) computes ≡ computes
+        go true y true z = refl
+        go true y false z = refl
+        go false y true z = absurd (true≢false (sym z ∙ d y))
+        go false y false z = refl
+
+    module _ {o : Operand} (e : o ≡ operand-of f at main ports) where
+      -- M is held: a shift's is 0, another's is told by its store.
+      functions-told : {v : ℕ} → o ≡ operand.Held v → (eqb (f .fsf) 12 ≡ false → bad at ≡ false) × (operands-of computes f at r main ports ≡ Held r v)
+      unfolding operands-of
+      functions-told {v} h = go (eqb (f .fsf) 12) refl (eqb (f .fsf) 2) (sym e ∙ h)
+        where
+          go : (t : Bool) → eqb (f .fsf) 12 ≡ t → (u : Bool) → cond t (operand.Held 0) (cond u (constant-or f at ports) (constant-or f at main)) ≡ operand.Held v
+              → (eqb (f .fsf) 12 ≡ false → bad at ≡ false) × (cond t (Held r 0) (cond u (constant-or-word f ports at r) (constant-or-word f main at r)) ≡ Held r v)
+          go true y u q = (λ n. absurd (true≢false (sym y ∙ n)), cc)
+          go false y true q = let d = held-told ports refl q in (λ n. d .0, d .1)
+          go false y false q = let d = held-told main refl q in (λ n. d .0, d .1)
+
+      pub computes-held : {x : End} {v : ℕ} {t : Triple} → o ≡ operand.Held v → ((df : ℕ) → df < 3 → t ≡ ALU (f .fsf, f .msf, df, r, v, b))
+          → x ≡ completed m (alone (delivered m f (p + 1) t)) (ram main ports) trail used → x ≡ step
+      unfolding executed
+      computes-held {x} {v} {t} h l z =
+          let d = functions-told h in
+          z ∙ rw (← next-is, l (f .dsf) register-low) (held-once computes (computes-by (d .0)) {r′ = r} {v = v} (d .1))
+
+      pub computes-bad : {x : End} → o ≡ operand.Bad → x ≡ flagged (p + 1) b true → x ≡ step
+      unfolding decided
+      computes-bad h z = halts-once (rw (not-top, lt-leb 7 class below, le-leb 4 class from) (go (eqb (f .fsf) 12) (eqb (f .fsf) 2) (sym e ∙ h))) z
+        where
+          go : (t u : Bool) → cond t (operand.Held 0) (cond u (constant-or f at ports) (constant-or f at main)) ≡ operand.Bad → cond (bad at) (cond t computes halts) computes ≡ halts
+          go true u q = let n : _≡_ {A = ℕ} 0 1 = cc in absurd (omega arith)
+          go false true q = rw (bad-told ports refl q)
+          go false false q = rw (bad-told main refl q)
+
+      pub computes-lacking : o ≡ operand.Unfitted → ended came·is.Unfitted (ram main ports) trail ≡ step
+      unfolding operands-of
+      computes-lacking h = let d = go (eqb (f .fsf) 12) (eqb (f .fsf) 2) (sym e ∙ h) in lacking-once computes (computes-by (λ n. d .0)) (d .1)
+        where
+          go : (t u : Bool) → cond t (operand.Held 0) (cond u (constant-or f at ports) (constant-or f at main)) ≡ operand.Unfitted
+              → (bad at ≡ false) × (cond t (Held r 0) (cond u (constant-or-word f ports at r) (constant-or-word f main at r)) ≡ Unfitted)
+          go true u q = let n : _≡_ {A = ℕ} 0 1 = cc in absurd (omega arith)
+          go false true q = lacking-told ports refl q
+          go false false q = lacking-told main refl q
+
+  -- ---- classes 7, 8 and 9, a result for P
+
+  module _ (from : 7 ≤ class) where
+    to-p-class : 7 ≤ class-of-word w
+    to-p-class = rw (D .classed) at from
+
+    pub jump-high : 3 ≤ f .dsf
+    jump-high = rw (D .fields .of-dsf) (jump-class w to-p-class)
+
+    pub jump-fsf : jumping (f .fsf) ≡ true
+    jump-fsf = rw (D .fields .of-fsf) (jump-function w to-p-class)
+
+    -- 8 is not obeyed where B is clear, nor 9 where it is set.
+    pub skips-8 : {x : End} → (eqb class 8 && not b) ≡ true → x ≡ flagged (p + 1) b false → x ≡ step
+    unfolding decided operands-of executed
+    skips-8 k z = z ∙ rw (← next-is) (held-once skips (rw (not-top, le-leb 7 class from, k)) {r′ = r} {v = 0} refl)
+
+    module _ (n₈ : (eqb class 8 && not b) ≡ false) where
+      pub skips-9 : {x : End} → (eqb class 9 && b) ≡ true → x ≡ flagged (p + 1) b false → x ≡ step
+      unfolding decided operands-of executed
+      skips-9 k z = z ∙ rw (← next-is) (held-once skips (rw (not-top, le-leb 7 class from, n₈, k)) {r′ = r} {v = 0} refl)
+
+      module _ (n₉ : (eqb class 9 && b) ≡ false) {o : Operand} (e : o ≡ constant-or f at main) where
+        jump-by : {t : Bool} → bad at ≡ t → decided class (eqb (f .fsf) 12) (top p) (bad at) b ≡ cond t halts computes
+        unfolding decided
+        jump-by d = rw (not-top, le-leb 7 class from, n₈, n₉, d)
+
+        pub jumps-held : {x : End} {v : ℕ} {t : Triple} → o ≡ operand.Held v → ((mf df : ℕ) → to-p df ≡ true → t ≡ ALU (f .fsf, mf, df, r, v, b))
+            → x ≡ completed m (alone (delivered m f (p + 1) t)) (ram main ports) trail used → x ≡ step
+        unfolding executed
+        jumps-held {x} {v} {t} h l z =
+            let d = held-told main e h in
+            z ∙ rw (← next-is, l (f .msf) (f .dsf) (rw (D .fields .of-dsf) (jump-to-p w to-p-class))) (held-once computes (jump-by (d .0)) {r′ = r} {v = v} (jump-operands f at r main ports jump-fsf ∙ d .1))
+
+        pub jumps-bad : {x : End} → o ≡ operand.Bad → x ≡ flagged (p + 1) b true → x ≡ step
+        jumps-bad h z = halts-once (jump-by (bad-told main e h)) z
+
+        pub jumps-lacking : o ≡ operand.Unfitted → ended came·is.Unfitted (ram main ports) trail ≡ step
+        jumps-lacking h = let d = lacking-told main e h in lacking-once computes (jump-by (d .0)) (jump-operands f at r main ports jump-fsf ∙ d .1)

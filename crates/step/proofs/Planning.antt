@@ -13,7 +13,7 @@ use lib.ListN.{length, getD}
 use lib.Seq.{getD-set-same}
 use borrow.Author.Tests.{eqb-true, eqb-false, ltb-true, ltb-false, lt-ltb, le-ltb, leb-false}
 use Rattle.report.specs.AnnexA.{Mem}
-use Rattle.report.specs.Section3.{State, Triple, NEXT, COMPARE}
+use Rattle.report.specs.Section3.{State, Triple, OFFSET, NEXT, COMPARE}
 use Rattle.report.specs.Parts.{word-at, with-word, fitted, rsf, msf, dsf, fsf, addr, source, address, bad, top, comparison, write, output, input, shift, skip, always-halts, of, compared, computed, to-p, Part, halts, compares, writes, skips, computes, part-by, place-by, operand, placed, after-by, unless, reads-by, writes-by, reads, written, InRange}
 use Rattle.report.proofs.Finite.{over}
 use Rattle.report.proofs.Order.{next-by-parts, source-lt, operand-lt}
@@ -22,13 +22,9 @@ use Rattle.machine.specs.Held.{ram, state, machine-of, place-of}
 use Rattle.machine.specs.declared.Machine.{Machine}
 use Rattle.instruction.specs.Fields.{Fielded}
 use Rattle.instruction.specs.declared.Fields.{Fields}
-use Rattle.step.specs.declared.phases.Operands.{Operands}
-use Rattle.step.specs.declared.phases.Operands.the-variants.{Held, Unfitted}
 use Rattle.step.specs.Phases as plan
-use Rattle.instruction.specs.PartOf.{part-of}
-use Rattle.step.specs.declared.phases.Decoded.{Decoded}
 use Rattle.step.specs.declared.phases.Fetched.the-variants as fetch
-use Rattle.step.specs.Phases.{Written, Nothing, Word, Change, Plan, fetched, Decodes, next-p, source-of, read-from, write-to, operands-of, with-flags, delivered, alone, executed, lacks, step-unfitted, writing, planned}
+use Rattle.step.specs.Phases.{Operands, Held, Unfitted, Written, Nothing, Word, Change, Plan, fetched, Decodes, next-p, source-of, word-from, write-to, operands-of, with-flags, delivered, alone, executed, lacks, step-unfitted, writing, planned}
 
 -- ---- tests that exclude each other, over the 1,024 classes
 
@@ -282,14 +278,11 @@ module _ (m : Machine) (main ports : List ℕ) (g : InRange (state m (ram main p
       goes nil io = plan.Go (alone (machine-of (placed (dsf w) (fsf w) board (m .p) (m .a) (m .x) (m .y) (computed (fsf w) (msf w) (to-p (dsf w)) r (operand board nil io w (m .x) (m .y)) (m .b)))))
 
       go : (z : Bool) → of shift w ≡ z → (io k : Bool) → eqb (msf w) 0 ≡ k
-          → plan-from computes f at m (cond k (Held r (addr w)) (cond z (Held r (addr w)) (cond io (read-from ports at r) (read-from main at r))))
+          → plan-from computes f at m (cond z (Held r 0) (cond io (cond k (Held r (addr w)) (word-from ports at r)) (cond k (Held r (addr w)) (word-from main at r))))
           ≡ cond (lacks board (unless (z || k) (place-by io w (m .x) (m .y))) || false) plan.Lacking (goes z io)
-      go true z io k y = either k
-        where
-          either : (k : Bool) → plan-from computes f at m (cond k (Held r (addr w)) (Held r (addr w))) ≡ goes true io
-          either true = ap plan.Go (shifts (addr w) io (omega arith) (eqb-true (fsf w) 12 (sym h ∙ z)) low)
-          either false = ap plan.Go (shifts (addr w) io (omega arith) (eqb-true (fsf w) 12 (sym h ∙ z)) low)
-      go false z io true y = ap plan.Go (result (addr w) false io low (constant io y))
+      go true z io k y = ap plan.Go (shifts 0 io (omega arith) (eqb-true (fsf w) 12 (sym h ∙ z)) low)
+      go false z true true y = ap plan.Go (result (addr w) false true low (constant true y))
+      go false z false true y = ap plan.Go (result (addr w) false false low (constant false y))
       go false z true false y = rw (lacks-port (near z)) (port (ltb at (length ports)))
         where
           port : (t : Bool) → plan-from computes f at m (cond t (Held r (getD ports at 0)) Unfitted) ≡ cond (not t || false) plan.Lacking (goes false true)
@@ -332,25 +325,27 @@ module _ (m : Machine) (main ports : List ℕ) (g : InRange (state m (ram main p
       go false eh false ec false ev true ek = plan-skips (rw (eh, ec, ev, ek))
       go false eh false ec false ev false ek = plan-computes (rw (eh, ec, ev, ek)) ec ev (low eh) (λ z. near eh z ek)
 
--- THE PHASES: what a decoded word's operands lead to is what NEXT changes, or refusal 5.
-pub phases-plan : (m : Machine) (main ports : List ℕ) (d : Decoded) → InRange (state m (ram main ports)) → m .stop ≡ false → m .p < length main → Decodes m (getD main (m .p) 0) d
-    → plan-from (part-of (d .part)) (d .fields) (d .address) m (operands-of (part-of (d .part)) (d .fields) (d .address) (source-of m (d .fields)) main ports)
-    ≡ planned (state m (ram main ports))
-phases-plan m main ports d g live hp e =
+-- THE PHASES: what the operands of the word at P lead to, at its part of the order, is what NEXT changes, or refusal 5.
+pub phases-plan : (m : Machine) (main ports : List ℕ) (f : Fields) (k : Part) → InRange (state m (ram main ports)) → m .stop ≡ false → m .p < length main
+    → Fielded (getD main (m .p) 0) f
+    → let at = OFFSET (f .msf, f .addr, m .x, m .y) in
+    part-by (getD main (m .p) 0) (m .p) at (m .b) false ≡ k
+    → plan-from k f at m (operands-of k f at (source-of m f) main ports) ≡ planned (state m (ram main ports))
+phases-plan m main ports f k g live hp e q =
     let w = getD main (m .p) 0 in
-    let a : d .address ≡ address (msf w) (addr w) (m .x) (m .y) = e .address ∙ offset-is (msf w) (addr w) (m .x) (m .y) (omega arith) (g .x-lt) (g .y-lt) in
-    let q : part-of (d .part) ≡ part-by w (m .p) (address (msf w) (addr w) (m .x) (m .y)) (m .b) false = e .part ∙ ap (λ (n : ℕ). part-by w (m .p) n (m .b) false) a in
-    rw (a, taken-is w (d .fields) (e .fields)) (by-tests m main ports g live hp (part-of (d .part)) (sym q))
+    let t = taken-is w f e in
+    let a : OFFSET (f .msf, f .addr, m .x, m .y) ≡ address (msf w) (addr w) (m .x) (m .y) = rw t (offset-is (msf w) (addr w) (m .x) (m .y) (omega arith) (g .x-lt) (g .y-lt)) in
+    rw (a, t) (by-tests m main ports g live hp k (sym (ap (λ (n : ℕ). part-by w (m .p) n (m .b) false) a) ∙ q))
 
 -- the word at P is not fitted
 pub unfetched : (m : Machine) (main ports : List ℕ) → length main ≤ m .p → plan.Lacking ≡ planned (state m (ram main ports))
 unfolding planned step-unfitted fitted
 unfetched m main ports h = rw (le-ltb (m .p) (length main) h)
 
--- ---- the ways out of `plan_step`
+-- ---- fetch
 
 -- a word that was fetched stands at P
-was-fetched : (main : List ℕ) (p w : ℕ) → fetched main p ≡ fetch.Word w → (p < length main) × (w ≡ getD main p 0)
+pub was-fetched : (main : List ℕ) (p w : ℕ) → fetched main p ≡ fetch.Word w → (p < length main) × (w ≡ getD main p 0)
 was-fetched main p w e = go (ltb p (length main)) refl e
   where
     go : (t : Bool) → ltb p (length main) ≡ t → cond t (fetch.Word (getD main p 0)) fetch.Unfitted ≡ fetch.Word w → (p < length main) × (w ≡ getD main p 0)
@@ -363,19 +358,3 @@ not-fetched m main ports e = go (ltb (m .p) (length main)) refl e
     go : (t : Bool) → ltb (m .p) (length main) ≡ t → cond t (fetch.Word (getD main (m .p) 0)) fetch.Unfitted ≡ fetch.Unfitted → plan.Lacking ≡ planned (state m (ram main ports))
     go true h q = let z : _≡_ {A = ℕ} 0 1 = cc in absurd (omega arith)
     go false h q = unfetched m main ports (ltb-false (m .p) (length main) h)
-
-module _ (m : Machine) (main ports : List ℕ) (w : ℕ) (d : Decoded) (g : InRange (state m (ram main ports))) (live : m .stop ≡ false)
-    (e : fetched main (m .p) ≡ fetch.Word w) (h : Decodes m w d) where
-  planned-from : (o : Operands) → o ≡ operands-of (part-of (d .part)) (d .fields) (d .address) (source-of m (d .fields)) main ports
-      → plan-from (part-of (d .part)) (d .fields) (d .address) m o ≡ planned (state m (ram main ports))
-  planned-from o q =
-      let f = was-fetched main (m .p) w e in
-      rw q (phases-plan m main ports d g live (f .0) (rw (f .1) at h))
-
-  pub no-operands : (o : Operands) → o ≡ operands-of (part-of (d .part)) (d .fields) (d .address) (source-of m (d .fields)) main ports → o ≡ Unfitted
-      → plan.Lacking ≡ planned (state m (ram main ports))
-  no-operands o q z = rw z at (planned-from o q)
-
-  pub executed-plan : (o : Operands) (r v : ℕ) (c : Change) → o ≡ operands-of (part-of (d .part)) (d .fields) (d .address) (source-of m (d .fields)) main ports
-      → o ≡ Held r v → c ≡ executed (part-of (d .part)) (d .fields) (d .address) m r v → plan.Go c ≡ planned (state m (ram main ports))
-  executed-plan o r v c q z k = rw k (rw z at (planned-from o q))

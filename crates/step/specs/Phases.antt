@@ -1,7 +1,7 @@
 -- What each phase of a step shows: the word fetched, the word decoded, R and M, and what the step changes.
 -- That together they are the report's NEXT and document 01's refusal 5 is `phases-plan` in proofs/Planning.antt.
 -- Assumes nothing.
-use Prim.Native.Nat.{ℕ, _+_, _%_, _^_}
+use Prim.Native.Nat.{ℕ, _+_, _%_, _^_, _<_}
 use mathlib.Core.Path.{_≡_}
 use mathlib.Core.Bool.{Bool, true, false, not, cond, _||_}
 use mathlib.Core.Option.{Option, none, some}
@@ -9,21 +9,19 @@ use mathlib.Core.List.{List}
 use lib.Dec.{eqb, ltb}
 use lib.ListN.{length, getD}
 use Rattle.report.specs.AnnexA.{Mem}
-use Rattle.report.specs.Section3.{State, Triple, REG, OFFSET, COMPARE, ALU, NEXT}
+use Rattle.report.specs.Section3.{State, Triple, REG, COMPARE, ALU, NEXT}
 use Rattle.report.specs.Parts as parts
-use Rattle.report.specs.Parts.{Part, stopped, halts, compares, writes, skips, computes, part-by, Where, fitted, word-at, reads, written}
+use Rattle.report.specs.Parts.{Part, stopped, halts, compares, writes, skips, computes, Where, fitted, word-at, reads, written}
 use Rattle.machine.specs.Held.{machine-of, place-by, place-of}
 use Rattle.machine.specs.declared.Machine.{Machine}
 use Rattle.machine.specs.declared.Place.{Place}
 use Rattle.instruction.specs.Fields.{Fielded}
-use Rattle.instruction.specs.PartOf.{part-of, Classed}
 use Rattle.instruction.specs.Classes.{class-of-word}
 use Rattle.instruction.specs.declared.Fields.{Fields}
 use Rattle.step.specs.declared.phases.Fetched.{Fetched}
 use Rattle.step.specs.declared.phases.Fetched.the-variants as fetch
-use Rattle.step.specs.declared.phases.Decoded.{Decoded}
-use Rattle.step.specs.declared.phases.Operands.{Operands}
-use Rattle.step.specs.declared.phases.Operands.the-variants.{Held, Unfitted}
+use Rattle.step.specs.declared.phases.Operand.{Operand}
+use Rattle.step.specs.declared.phases.Operand.the-variants as operand
 
 -- ---- fetch
 
@@ -32,6 +30,10 @@ fetched main p = cond (ltb p (length main)) (fetch.Word (getD main p 0)) fetch.U
 
 -- ---- decode
 
+-- The machine in pieces: A, X and Y stand first among the four sources.
+abbrev pub held : List ℕ → ℕ → Bool → Bool → Machine
+held sources p b stop = record { a = getD sources 0 0; x = getD sources 1 0; y = getD sources 2 0; p = p; b = b; stop = stop }
+
 -- N modulo 2^20.
 abbrev pub next-p : Machine → ℕ
 next-p m = (m .p + 1) % 2 ^ 20
@@ -39,37 +41,51 @@ next-p m = (m .p + 1) % 2 ^ 20
 abbrev pub source-of : Machine → Fields → ℕ
 source-of m f = REG (f .rsf, m .a, m .x, m .y, next-p m)
 
-pub record Decodes (m : Machine) (w : ℕ) (d : Decoded) : Type 0 where
-  pub fields : Fielded w (d .fields)
-  pub address : d .address ≡ OFFSET (parts.msf w, parts.addr w, m .x, m .y)
-  pub next : d .next ≡ next-p m
-  pub r : d .r ≡ source-of m (d .fields)
-  pub class : d .class ≡ class-of-word w
-  pub part : part-of (d .part) ≡ part-by w (m .p) (d .address) (m .b) false
-  pub classed : Classed (d .part) (d .class)
+-- The word at P decoded, where N fits P: its fields, its class and R.
+pub record Decodes (m : Machine) (main : List ℕ) (f : Fields) (class r : ℕ) : Type 0 where
+  pub fetches : m .p < length main
+  pub low : m .p + 1 < 2 ^ 20
+  pub fields : Fielded (getD main (m .p) 0) f
+  pub classed : class ≡ class-of-word (getD main (m .p) 0)
+  pub source : r ≡ source-of m f
 
 -- ---- operands
 
-abbrev pub read-from : List ℕ → ℕ → ℕ → Operands
-read-from store at r = cond (ltb at (length store)) (Held r (getD store at 0)) Unfitted
+-- M as the code finds it. A bad address is told apart, since it halts.
+abbrev pub read-from : List ℕ → ℕ → Operand
+read-from store at = cond (ltb at (length store)) (operand.Held (getD store at 0)) operand.Unfitted
 
-abbrev pub constant-or : Fields → List ℕ → ℕ → ℕ → Operands
-constant-or f store at r = cond (eqb (f .msf) 0) (Held r (f .addr)) (read-from store at r)
+abbrev pub constant-or : Fields → ℕ → List ℕ → Operand
+constant-or f at store = cond (eqb (f .msf) 0) (operand.Held (f .addr)) (cond (parts.bad at) operand.Bad (read-from store at))
+
+-- A shift has no M.
+abbrev pub operand-of : Fields → ℕ → List ℕ → List ℕ → Operand
+operand-of f at main ports = cond (eqb (f .fsf) 12) (operand.Held 0) (cond (eqb (f .fsf) 2) (constant-or f at ports) (constant-or f at main))
+
+-- R and M, once the word that is to be read or written is known to be fitted.
+pub data Operands : Type 0 where
+  Held : ℕ → ℕ → Operands
+  Unfitted : Operands
+
+abbrev pub word-from : List ℕ → ℕ → ℕ → Operands
+word-from store at r = cond (ltb at (length store)) (Held r (getD store at 0)) Unfitted
+
+abbrev pub constant-or-word : Fields → List ℕ → ℕ → ℕ → Operands
+constant-or-word f store at r = cond (eqb (f .msf) 0) (Held r (f .addr)) (word-from store at r)
 
 abbrev pub write-to : ℕ → ℕ → ℕ → Operands
 write-to words at r = cond (ltb at words) (Held r 0) Unfitted
 
--- A shift has no M and reads no word; the constant stands in its place.
+-- By the part of the order, with an address that is not bad where it counts.
 unfoldable pub operands-of : Part → Fields → ℕ → ℕ → List ℕ → List ℕ → Operands
 operands-of stopped f at r main ports = Held r 0
 operands-of halts f at r main ports = Held r 0
-operands-of compares f at r main ports = constant-or f main at r
+operands-of compares f at r main ports = constant-or-word f main at r
 operands-of writes f at r main ports = cond (eqb (f .dsf) 6) (write-to (length ports) at r) (write-to (length main) at r)
 operands-of skips f at r main ports = Held r 0
 operands-of computes f at r main ports =
-    cond (eqb (f .msf) 0) (Held r (f .addr))
-    (cond (eqb (f .fsf) 12) (Held r (f .addr))
-    (cond (eqb (f .fsf) 2) (read-from ports at r) (read-from main at r)))
+    cond (eqb (f .fsf) 12) (Held r 0)
+    (cond (eqb (f .fsf) 2) (constant-or-word f ports at r) (constant-or-word f main at r))
 
 -- ---- execute
 

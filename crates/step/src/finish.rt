@@ -1,24 +1,25 @@
 // The last phase, which alone writes: the record goes to the trail, and then the word to its store (document 01, "The trail").
 // A step changes at most one register or one word, and each kind has its finish.
-use machine::Machine;
 use machine::Place;
 use trail::Added;
 use trail::Word;
 ghost use mathlib.Core.Path.{_≡_};
-ghost use mathlib.Core.Bool.{false};
-ghost use Prim.Native.Nat.{_≤_, _<_, _^_};
-ghost use lib.ListN.{length};
+ghost use mathlib.Core.Bool.{false, cond};
+ghost use mathlib.Core.List.{List};
+ghost use Prim.Native.Nat.{ℕ, _≤_, _<_, _^_};
+ghost use lib.Dec.{eqb};
+ghost use lib.ListN.{length, set};
 ghost use Rattle.report.specs.AnnexA.{Mem};
 ghost use Rattle.report.specs.Parts.{fitted, word-at, with-word};
 ghost use Rattle.machine.specs.Held.{ram, where-of};
 ghost use Rattle.trail.specs.Records.{record-bytes, added};
 ghost use Rattle.trail.specs.OneChange.{registers-kept};
-ghost use Rattle.step.specs.Phases.{alone, Word as Word·written};
-ghost use Rattle.step.specs.Finishing.{Fitted, changed-to, ended, completed};
+ghost use Rattle.step.specs.Phases.{held, alone, Word as Word·written};
+ghost use Rattle.step.specs.Finishing.{Fitted, changed-to, came, Kept, ended, completed};
 
-// What became of a step: the machine and the count of bytes in use after it, or why it was not done.
+// What became of a step: P, B and STOP and the count of bytes in use after it, or why it was not done.
 pub enum Stepped {
-    Done(Machine, usize),
+    Done(u32, bool, bool, usize),
     Unfitted,
     Full,
 }
@@ -97,35 +98,39 @@ fn note_word(
     trail::records::add_word(trail, used, p, b, stop, place, old)
 }
 
-// Finishes a step that changes P, B and STOP alone.
+// Finishes a step at P p0 with B b0 that changes P, B and STOP alone.
 pub(crate) fn finish_flags(
-    m: Machine,
+    p0: u32,
+    b0: bool,
     p: u32,
     b: bool,
     stop: bool,
     trail: &mut [u8],
     used: usize,
 ) -> Stepped
-    requires { ⌜ (m .p < 2 ^ 20) × (used ≤ length (now trail)) ⌝ }
-    ensures { λ r. ⌜ ((stores : Mem) → ended r stores (now (trail .exit)) ≡ completed m (alone (record { a = m .a; x = m .x; y = m .y; p = p; b = b; stop = stop })) stores (now (trail .entry)) used) ⌝ }
+    requires { ⌜ (p0 < 2 ^ 20) × (used ≤ length (now trail)) ⌝ }
+    ensures { λ r. ⌜ ((stores : Mem) (sources : List ℕ) → ended (came r sources) stores (now (trail .exit)) ≡ completed (held sources p0 b0 false) (alone (held sources p b stop)) stores (now (trail .entry)) used) ⌝ }
 {
-    let Added::Used(n) = trail::records::add_flags(trail, used, m.p, m.b, m.stop) else {
+    let Added::Used(n) = trail::records::add_flags(trail, used, p0, b0, false) else {
         return Stepped::Full;
     };
-    let after = Machine {
-        a: m.a,
-        x: m.x,
-        y: m.y,
-        p,
-        b,
-        stop,
-    };
-    Stepped::Done(after, n)
+    Stepped::Done(p, b, stop, n)
 }
 
-// Finishes a step that puts v in A.
-pub(crate) fn finish_a(
-    m: Machine,
+// The weight of a register's mark: 1, 2 and 4 for A, X and Y.
+fn mark_of(k: u32) -> u32
+    requires { ⌜ k < 3 ⌝ }
+    ensures { λ w. ⌜ w ≡ cond (eqb k 0) 1 (cond (eqb k 1) 2 4) ⌝ }
+{
+    1 << k
+}
+
+// Finishes a step that puts v in the register of number k.
+pub(crate) fn finish_register(
+    sources: &mut [u32; 4],
+    k: u32,
+    p0: u32,
+    b0: bool,
     v: u32,
     p: u32,
     b: bool,
@@ -133,119 +138,26 @@ pub(crate) fn finish_a(
     trail: &mut [u8],
     used: usize,
 ) -> Stepped
-    requires { ⌜ (m .p < 2 ^ 20) × (used ≤ length (now trail)) ⌝ }
-    ensures { λ r. ⌜ ((stores : Mem) → ended r stores (now (trail .exit)) ≡ completed m (alone (record { a = v; x = m .x; y = m .y; p = p; b = b; stop = stop })) stores (now (trail .entry)) used) ⌝ }
+    requires { ⌜ (k < 3) × (p0 < 2 ^ 20) × (used ≤ length (now trail)) × (length (now sources) ≡ 4) ⌝ }
+    ensures { λ r. ⌜ Kept r (now (sources .entry)) (now (sources .exit)) × ((stores : Mem) → ended (came r (now (sources .exit))) stores (now (trail .exit)) ≡ completed (held (now (sources .entry)) p0 b0 false) (alone (held (set (now (sources .entry)) k v) p b stop)) stores (now (trail .entry)) used) ⌝ }
 {
-    if m.a == v {
-        return finish_flags(m, p, b, stop, trail, used);
+    let i = k as usize;
+    let old = sources[i];
+    if old == v {
+        return finish_flags(p0, b0, p, b, stop, trail, used);
     }
-    let Added::Used(n) = trail::records::add_register(trail, used, 1, m.p, m.b, m.stop, m.a) else {
+    let Added::Used(n) = trail::records::add_register(trail, used, mark_of(k), p0, b0, false, old)
+    else {
         return Stepped::Full;
     };
-    let after = Machine {
-        a: v,
-        x: m.x,
-        y: m.y,
-        p,
-        b,
-        stop,
-    };
-    Stepped::Done(after, n)
-}
-
-// Finishes a step that puts v in X.
-pub(crate) fn finish_x(
-    m: Machine,
-    v: u32,
-    p: u32,
-    b: bool,
-    stop: bool,
-    trail: &mut [u8],
-    used: usize,
-) -> Stepped
-    requires { ⌜ (m .p < 2 ^ 20) × (used ≤ length (now trail)) ⌝ }
-    ensures { λ r. ⌜ ((stores : Mem) → ended r stores (now (trail .exit)) ≡ completed m (alone (record { a = m .a; x = v; y = m .y; p = p; b = b; stop = stop })) stores (now (trail .entry)) used) ⌝ }
-{
-    if m.x == v {
-        return finish_flags(m, p, b, stop, trail, used);
-    }
-    let Added::Used(n) = trail::records::add_register(trail, used, 2, m.p, m.b, m.stop, m.x) else {
-        return Stepped::Full;
-    };
-    let after = Machine {
-        a: m.a,
-        x: v,
-        y: m.y,
-        p,
-        b,
-        stop,
-    };
-    Stepped::Done(after, n)
-}
-
-// Finishes a step that puts v in Y.
-pub(crate) fn finish_y(
-    m: Machine,
-    v: u32,
-    p: u32,
-    b: bool,
-    stop: bool,
-    trail: &mut [u8],
-    used: usize,
-) -> Stepped
-    requires { ⌜ (m .p < 2 ^ 20) × (used ≤ length (now trail)) ⌝ }
-    ensures { λ r. ⌜ ((stores : Mem) → ended r stores (now (trail .exit)) ≡ completed m (alone (record { a = m .a; x = m .x; y = v; p = p; b = b; stop = stop })) stores (now (trail .entry)) used) ⌝ }
-{
-    if m.y == v {
-        return finish_flags(m, p, b, stop, trail, used);
-    }
-    let Added::Used(n) = trail::records::add_register(trail, used, 4, m.p, m.b, m.stop, m.y) else {
-        return Stepped::Full;
-    };
-    let after = Machine {
-        a: m.a,
-        x: m.x,
-        y: v,
-        p,
-        b,
-        stop,
-    };
-    Stepped::Done(after, n)
-}
-
-// Finishes a call, which puts v in Y and jumps to p. It is finish_y once more: each finish has one caller, so that the compiler puts it in line.
-pub(crate) fn finish_call(
-    m: Machine,
-    v: u32,
-    p: u32,
-    b: bool,
-    stop: bool,
-    trail: &mut [u8],
-    used: usize,
-) -> Stepped
-    requires { ⌜ (m .p < 2 ^ 20) × (used ≤ length (now trail)) ⌝ }
-    ensures { λ r. ⌜ ((stores : Mem) → ended r stores (now (trail .exit)) ≡ completed m (alone (record { a = m .a; x = m .x; y = v; p = p; b = b; stop = stop })) stores (now (trail .entry)) used) ⌝ }
-{
-    if m.y == v {
-        return finish_flags(m, p, b, stop, trail, used);
-    }
-    let Added::Used(n) = trail::records::add_register(trail, used, 4, m.p, m.b, m.stop, m.y) else {
-        return Stepped::Full;
-    };
-    let after = Machine {
-        a: m.a,
-        x: m.x,
-        y: v,
-        p,
-        b,
-        stop,
-    };
-    Stepped::Done(after, n)
+    sources[i] = v;
+    Stepped::Done(p, b, stop, n)
 }
 
 // Finishes a step that writes a word to a fitted place.
 pub(crate) fn finish_word(
-    m: Machine,
+    p0: u32,
+    b0: bool,
     place: Place,
     v: u32,
     p: u32,
@@ -254,22 +166,14 @@ pub(crate) fn finish_word(
     trail: &mut [u8],
     used: usize,
 ) -> Stepped
-    requires { ⌜ (m .p < 2 ^ 20) × (used ≤ length (now trail)) ⌝ }
+    requires { ⌜ (p0 < 2 ^ 20) × (used ≤ length (now trail)) ⌝ }
     requires { ⌜ Fitted (ram (now main) (now ports)) (where-of place) ⌝ }
-    ensures { λ r. ⌜ ended r (ram (now (main .exit)) (now (ports .exit))) (now (trail .exit)) ≡ completed m (record { machine = record { a = m .a; x = m .x; y = m .y; p = p; b = m .b; stop = false }; written = Word·written place v }) (ram (now (main .entry)) (now (ports .entry))) (now (trail .entry)) used ⌝ }
+    ensures { λ r. ⌜ ((sources : List ℕ) → ended (came r sources) (ram (now (main .exit)) (now (ports .exit))) (now (trail .exit)) ≡ completed (held sources p0 b0 false) (record { machine = held sources p b0 false; written = Word·written place v }) (ram (now (main .entry)) (now (ports .entry))) (now (trail .entry)) used) ⌝ }
 {
     let old = word_at(main, ports, place);
-    let Added::Used(n) = note_word(m.p, m.b, m.stop, place, old, v, trail, used) else {
+    let Added::Used(n) = note_word(p0, b0, false, place, old, v, trail, used) else {
         return Stepped::Full;
     };
     put_word(main, ports, place, v);
-    let after = Machine {
-        a: m.a,
-        x: m.x,
-        y: m.y,
-        p,
-        b: m.b,
-        stop: false,
-    };
-    Stepped::Done(after, n)
+    Stepped::Done(p, b0, false, n)
 }

@@ -1,35 +1,29 @@
 // The phases of a step: fetch, decode, operand and execute work out what it changes, and finish (finish.rt) writes it.
 // Document 01, "Order in a step". What a step changes is not collected in one value, which would go through memory: each way through
 // the phases ends in the finish that it needs.
+//
+// The machine is in pieces here: P and B, and the four sources A, X, Y and N, so that a register is found by its number. STOP is not set.
 use crate::finish::Stepped;
-use crate::finish::finish_a;
-use crate::finish::finish_call;
 use crate::finish::finish_flags;
+use crate::finish::finish_register;
 use crate::finish::finish_word;
-use crate::finish::finish_x;
-use crate::finish::finish_y;
 use crate::finish::is_fitted;
 use instruction::Fields;
-use instruction::Part;
-use machine::Machine;
 use machine::MainAddress;
 use machine::Place;
 use machine::PortNumber;
-use word::AluResult;
 ghost use mathlib.Core.Path.{_≡_};
 ghost use mathlib.Core.Bool.{false};
-ghost use Prim.Native.Nat.{_+_, _%_, _≤_, _<_, _^_};
+ghost use Prim.Native.Nat.{_≤_, _<_, _^_};
 ghost use lib.Dec.{eqb};
-ghost use lib.ListN.{length};
-ghost use Rattle.report.specs.AnnexA.{Mem};
-ghost use Rattle.report.specs.Parts.{computes};
-ghost use Rattle.machine.specs.Held.{ram, place-by};
+ghost use lib.ListN.{length, getD};
+ghost use Rattle.report.specs.Parts.{InRange};
+ghost use Rattle.machine.specs.Held.{ram, state, place-by};
 ghost use Rattle.instruction.specs.Classes.{Classified};
-ghost use Rattle.instruction.specs.declared.Fields.{Fields as Fielding};
-ghost use Rattle.word.specs.Triples.{result-triple};
+ghost use Rattle.instruction.specs.Sources.{address-of};
 ghost use Rattle.step.specs.Lawful.{Lawful};
-ghost use Rattle.step.specs.Phases.{fetched, Decodes, read-from, constant-or, operands-of, delivered, alone};
-ghost use Rattle.step.specs.Finishing.{ended, completed, once};
+ghost use Rattle.step.specs.Phases.{held, fetched, Decodes, read-from, constant-or, operand-of};
+ghost use Rattle.step.specs.Finishing.{came, Kept, ended, once};
 
 // The word at P.
 pub enum Fetched {
@@ -37,19 +31,10 @@ pub enum Fetched {
     Unfitted,
 }
 
-// A word decoded on a machine: its fields, its whole address, the P after it, R, its class, and the part of the order that it comes to.
-pub struct Decoded {
-    pub fields: Fields,
-    pub address: u32,
-    pub next: u32,
-    pub r: u32,
-    pub class: u8,
-    pub part: Part,
-}
-
-// R and M, once the word that is to be read is known to be fitted.
-pub enum Operands {
-    Held(u32, u32),
+// M, or why there is none: a bad address halts, and a word that is not fitted refuses the step.
+pub enum Operand {
+    Held(u32),
+    Bad,
     Unfitted,
 }
 
@@ -63,73 +48,44 @@ pub(crate) fn fetch(main: &[u32], p: u32) -> Fetched
     Fetched::Unfitted
 }
 
-// N, with its twenty bits.
-fn next_p(p: u32) -> u32
-    requires { ⌜ p < 2 ^ 20 ⌝ }
-    ensures { λ n. ⌜ n ≡ (p + 1) % 2 ^ 20 ⌝ }
-{
-    if p == 0xF_FFFF {
-        return 0;
-    }
-    p + 1
-}
-
-pub(crate) fn decode(table: &[u8; 1024], m: Machine, w: u32) -> Decoded
-    requires { ⌜ Classified (now table) ⌝ }
-    requires { ⌜ m .p < 2 ^ 20 ⌝ }
-    ensures { λ d. ⌜ Decodes m w d ⌝ }
-{
-    let class = instruction::class_of(table, w);
-    let fields = instruction::take_apart(w);
-    let address = instruction::address(fields.msf, fields.addr, m.x, m.y);
-    let next = next_p(m.p);
-    let r = instruction::register(fields.rsf, m.a, m.x, m.y, next);
-    let part = instruction::decide(w, class, m.p, address, m.b);
-    Decoded {
-        fields,
-        address,
-        next,
-        r,
-        class,
-        part,
-    }
-}
-
-// R, and the word of a store as M.
-fn read(store: &[u32], at: u32, r: u32) -> Operands
-    ensures { λ o. ⌜ o ≡ read-from (now (store .entry)) at r ⌝ }
+// The word of a store as M.
+fn read(store: &[u32], at: u32) -> Operand
+    ensures { λ o. ⌜ o ≡ read-from (now (store .entry)) at ⌝ }
 {
     let i = at as usize;
     if i < store.len() {
-        return Operands::Held(r, store[i]);
+        return Operand::Held(store[i]);
     }
-    Operands::Unfitted
+    Operand::Unfitted
 }
 
-// The same, but for the constant addr where msf is 0.
-fn constant_or_read(f: Fields, store: &[u32], at: u32, r: u32) -> Operands
-    ensures { λ o. ⌜ o ≡ constant-or f (now (store .entry)) at r ⌝ }
+// M: the constant addr where msf is 0, else the word of a store.
+fn constant_or_read(f: Fields, sources: &[u32; 4], store: &[u32]) -> Operand
+    requires { ⌜ (f .msf < 4) × (f .addr < 2 ^ 20) × (getD (now sources) 1 0 < 2 ^ 32) × (getD (now sources) 2 0 < 2 ^ 32) ⌝ }
+    ensures { λ o. ⌜ o ≡ constant-or f (address-of (f .msf) (f .addr) (now (sources .entry))) (now (store .entry)) ⌝ }
 {
     if f.msf == 0 {
-        return Operands::Held(r, f.addr);
+        return Operand::Held(f.addr);
     }
-    read(store, at, r)
+    let at = instruction::address(f.msf, f.addr, sources);
+    if at > 0xF_FFFF {
+        return Operand::Bad;
+    }
+    read(store, at)
 }
 
-// R and M of a function: function 2 reads a port. A shift reads no word; the constant stands where it has no M.
-fn operand(f: Fields, main: &[u32], ports: &[u32], at: u32, r: u32) -> Operands
-    ensures { λ o. ⌜ o ≡ operands-of computes f at r (now (main .entry)) (now (ports .entry)) ⌝ }
+// M of a function for A, X or Y: a shift has none, and function 2 reads a port.
+fn operand_of(f: Fields, sources: &[u32; 4], main: &[u32], ports: &[u32]) -> Operand
+    requires { ⌜ (f .msf < 4) × (f .addr < 2 ^ 20) × (getD (now sources) 1 0 < 2 ^ 32) × (getD (now sources) 2 0 < 2 ^ 32) ⌝ }
+    ensures { λ o. ⌜ o ≡ operand-of f (address-of (f .msf) (f .addr) (now (sources .entry))) (now (main .entry)) (now (ports .entry)) ⌝ }
 {
-    if f.msf == 0 {
-        return Operands::Held(r, f.addr);
-    }
     if f.fsf == 12 {
-        return Operands::Held(r, f.addr);
+        return Operand::Held(0);
     }
     if f.fsf == 2 {
-        return read(ports, at, r);
+        return constant_or_read(f, sources, ports);
     }
-    read(main, at, r)
+    constant_or_read(f, sources, main)
 }
 
 // The place that a write goes to: class 3 writes to a port.
@@ -142,88 +98,152 @@ fn place_of(class: u8, at: u32) -> Place
     Place::Main(MainAddress(at))
 }
 
-// Finishes with a result for A, X or Y, which are the classes 4, 5 and 6.
-fn deliver(m: Machine, class: u8, n: u32, t: AluResult, trail: &mut [u8], used: usize) -> Stepped
-    requires { ⌜ (m .p < 2 ^ 20) × (used ≤ length (now trail)) × (4 ≤ class) × (class ≤ 6) ⌝ }
-    ensures { λ r. ⌜ ((stores : Mem) (f : Fielding) → f .dsf + 4 ≡ class → ended r stores (now (trail .exit)) ≡ completed m (alone (delivered m f n (result-triple t))) stores (now (trail .entry)) used) ⌝ }
-{
-    if class == 4 {
-        return finish_a(m, t.value, n, t.b, t.stop, trail, used);
-    }
-    if class == 5 {
-        return finish_x(m, t.value, n, t.b, t.stop, trail, used);
-    }
-    finish_y(m, t.value, n, t.b, t.stop, trail, used)
+// A result for a register: which one (0, 1 or 2 for A, X or Y), its value, and P, B and STOP after it.
+struct Delivery {
+    to: u32,
+    value: u32,
+    p: u32,
+    b: bool,
+    stop: bool,
 }
 
-// Finishes with a result for P; a call, function 1, also puts n, which is P + 1, in Y.
-fn jump(m: Machine, f: Fields, n: u32, t: AluResult, trail: &mut [u8], used: usize) -> Stepped
-    requires { ⌜ (m .p < 2 ^ 20) × (used ≤ length (now trail)) × (3 ≤ f .dsf) ⌝ }
-    ensures { λ r. ⌜ ((stores : Mem) → ended r stores (now (trail .exit)) ≡ completed m (alone (delivered m f n (result-triple t))) stores (now (trail .entry)) used) ⌝ }
+// A function's result: for A, X or Y (the classes 4, 5 and 6), or for P (7 to 9), where a call also puts N in Y.
+fn deliver(
+    class: u8,
+    f: Fields,
+    r: u32,
+    sources: &mut [u32; 4],
+    p: u32,
+    b: bool,
+    main: &[u32],
+    ports: &[u32],
+    trail: &mut [u8],
+    used: usize,
+) -> Stepped
+    requires { ⌜ Lawful p (length (now main)) (length (now ports)) (length (now trail)) used × (length (now sources) ≡ 4) ⌝ }
+    requires { ⌜ InRange (state (held (now sources) p b false) (ram (now main) (now ports))) ⌝ }
+    requires { ⌜ Decodes (held (now sources) p b false) (now main) f class r × (4 ≤ class) ⌝ }
+    ensures { λ r. ⌜ Kept r (now (sources .entry)) (now (sources .exit)) × (ended (came r (now (sources .exit))) (ram (now (main .entry)) (now (ports .entry))) (now (trail .exit)) ≡ once (held (now (sources .entry)) p b false) (ram (now (main .entry)) (now (ports .entry))) (now (trail .entry)) used) ⌝ }
 {
-    if f.fsf == 1 {
-        return finish_call(m, n, t.value % 0x10_0000, t.b, t.stop, trail, used);
+    let next = p + 1;
+    // Set on both ways that lead to a register.
+    let mut d = Delivery {
+        to: 2,
+        value: next,
+        p: next,
+        b,
+        stop: false,
+    };
+    if class >= 7 {
+        if (class == 8) & !b {
+            return finish_flags(p, b, next, b, false, trail, used);
+        }
+        if (class == 9) & b {
+            return finish_flags(p, b, next, b, false, trail, used);
+        }
+        let o = constant_or_read(f, sources, main);
+        match o {
+            Operand::Held(v) => {
+                let t = word::alu_jump(f.fsf, r, v, b);
+                if f.fsf != 1 {
+                    return finish_flags(p, b, t.value % 0x10_0000, t.b, t.stop, trail, used);
+                }
+                d = Delivery {
+                    to: 2,
+                    value: next,
+                    p: t.value % 0x10_0000,
+                    b: t.b,
+                    stop: t.stop,
+                };
+            }
+            Operand::Bad => {
+                return finish_flags(p, b, next, b, true, trail, used);
+            }
+            Operand::Unfitted => {
+                return Stepped::Unfitted;
+            }
+        }
+    } else {
+        let o = operand_of(f, sources, main, ports);
+        match o {
+            Operand::Held(v) => {
+                let t = word::alu_register(f.fsf, f.msf, r, v, b);
+                d = Delivery {
+                    to: f.dsf,
+                    value: t.value,
+                    p: next,
+                    b: t.b,
+                    stop: t.stop,
+                };
+            }
+            Operand::Bad => {
+                return finish_flags(p, b, next, b, true, trail, used);
+            }
+            Operand::Unfitted => {
+                return Stepped::Unfitted;
+            }
+        }
     }
-    finish_flags(m, t.value % 0x10_0000, t.b, t.stop, trail, used)
+    finish_register(sources, d.to, p, b, d.value, d.p, d.b, d.stop, trail, used)
 }
 
-// One step: fetch, decode, and then by the part of the order its operands, what it executes (a comparison, the ALU, or nothing) and its finish.
+// One step of a machine with these sources, P and B, that is not stopped.
 pub fn step_once(
     table: &[u8; 1024],
-    m: Machine,
+    sources: &mut [u32; 4],
+    p: u32,
+    b: bool,
     main: &mut [u32],
     ports: &mut [u32],
     trail: &mut [u8],
     used: usize,
 ) -> Stepped
     requires { ⌜ Classified (now table) ⌝ }
-    requires { ⌜ Lawful (m .p) (length (now main)) (length (now ports)) (length (now trail)) used ⌝ }
-    requires { ⌜ m .stop ≡ false ⌝ }
-    ensures { λ r. ⌜ ended r (ram (now (main .exit)) (now (ports .exit))) (now (trail .exit)) ≡ once m (ram (now (main .entry)) (now (ports .entry))) (now (trail .entry)) used ⌝ }
+    requires { ⌜ Lawful p (length (now main)) (length (now ports)) (length (now trail)) used × (length (now sources) ≡ 4) ⌝ }
+    requires { ⌜ InRange (state (held (now sources) p b false) (ram (now main) (now ports))) ⌝ }
+    ensures { λ r. ⌜ Kept r (now (sources .entry)) (now (sources .exit)) × (ended (came r (now (sources .exit))) (ram (now (main .exit)) (now (ports .exit))) (now (trail .exit)) ≡ once (held (now (sources .entry)) p b false) (ram (now (main .entry)) (now (ports .entry))) (now (trail .entry)) used) ⌝ }
 {
-    let Fetched::Word(w) = fetch(main, m.p) else {
+    let Fetched::Word(w) = fetch(main, p) else {
         return Stepped::Unfitted;
     };
-    let d = decode(table, m, w);
-    let f = d.fields;
-    let at = d.address;
-    let part = d.part;
-    match part {
-        Part::Halts => finish_flags(m, d.next, m.b, true, trail, used),
-        Part::Compares => {
-            let Operands::Held(r, v) = constant_or_read(f, main, at, d.r) else {
-                return Stepped::Unfitted;
-            };
-            finish_flags(
-                m,
-                d.next,
-                word::compare(f.fsf, r, v, m.b),
-                false,
-                trail,
-                used,
-            )
-        }
-        Part::Writes => {
-            let place = place_of(d.class, at);
-            if !is_fitted(main, ports, place) {
-                return Stepped::Unfitted;
-            }
-            finish_word(m, place, d.r, d.next, main, ports, trail, used)
-        }
-        Part::Skips => finish_flags(m, d.next, m.b, false, trail, used),
-        Part::Computes => {
-            let Operands::Held(r, v) = operand(f, main, ports, at, d.r) else {
-                return Stepped::Unfitted;
-            };
-            let t = word::alu_register(f.fsf, f.msf, r, v, m.b);
-            deliver(m, d.class, d.next, t, trail, used)
-        }
-        Part::Jumps => {
-            let Operands::Held(r, to) = constant_or_read(f, main, at, d.r) else {
-                return Stepped::Unfitted;
-            };
-            let t = word::alu_jump(f.fsf, r, to, m.b);
-            jump(m, f, d.next, t, trail, used)
-        }
+    if p == 0xF_FFFF {
+        // N does not fit P.
+        return finish_flags(p, b, 0, b, true, trail, used);
     }
+    let next = p + 1;
+    sources[3] = next;
+    let class = instruction::class_of(table, w);
+    let f = instruction::take_apart(w);
+    let r = instruction::register(f.rsf, sources);
+    if class < 4 {
+        // A comparison, a word that always halts, or a write: no register changes.
+        if class == 0 {
+            let o = constant_or_read(f, sources, main);
+            match o {
+                Operand::Held(v) => {
+                    let test = word::compare(f.fsf, r, v, b);
+                    return finish_flags(p, b, next, test, false, trail, used);
+                }
+                Operand::Bad => {
+                    return finish_flags(p, b, next, b, true, trail, used);
+                }
+                Operand::Unfitted => {
+                    return Stepped::Unfitted;
+                }
+            }
+        }
+        if class == 1 {
+            return finish_flags(p, b, next, b, true, trail, used);
+        }
+        let at = instruction::address(f.msf, f.addr, sources);
+        if at >= 0x10_0000 {
+            return finish_flags(p, b, next, b, true, trail, used);
+        }
+        let place = place_of(class, at);
+        if !is_fitted(main, ports, place) {
+            return Stepped::Unfitted;
+        }
+        return finish_word(p, b, place, r, next, main, ports, trail, used);
+    }
+    deliver(class, f, r, sources, p, b, main, ports, trail, used)
 }

@@ -31,14 +31,14 @@ use Rattle.viper.specs.declared.Refusal.{Refusal}
 use Rattle.viper.specs.declared.Refusal.the-variants as refusal
 use Rattle.step.specs.Phases.{Written, Change, Plan, lacks, step-unfitted, writing, change-of, planned}
 use Rattle.step.specs.Finishing.{Addressed, changing, rewritten, left, Finish, finishing, finished, End, ended, answered-by, by-plan, once}
-use Rattle.step.specs.declared.finish.Stepped.the-variants as stepped·is
+use Rattle.step.specs.Finishing as stepped·is
 use Rattle.viper.specs.Operations.{Bench, step, record-for, operate, applies, answer, done}
 use Rattle.viper.specs.Runs.{Ran, ends, ending-of, unless-stopped, stepped as by-answer, over-and-over}
 use Rattle.step.specs.Lawful.{Lawful}
 use Rattle.viper.specs.Told.{bench}
 use Rattle.step.proofs.Planning.{word-back}
 use Rattle.viper.proofs.Lowest.{lowest-by, five-six}
-use Rattle.step.specs.declared.finish.Stepped.{Stepped as AfterStep}
+use Rattle.step.specs.Finishing.{Came as AfterStep}
 
 -- ---- places
 
@@ -307,7 +307,7 @@ not-unfitted : (m : Machine) (x : Added) → stepped·is.Unfitted ≡ answered-b
 not-unfitted m added·is.Full e = let n : _≡_ {A = ℕ} 0 1 = cc in omega arith
 not-unfitted m (added·is.Used k) e = let n : _≡_ {A = ℕ} 0 1 = cc in omega arith
 
-was-full : (m : Machine) (x : Added) → stepped·is.Full ≡ answered-by m x → x ≡ added·is.Full
+was-full : (m : Machine) (x : Added) → stepped·is.NoRoom ≡ answered-by m x → x ≡ added·is.Full
 was-full m added·is.Full e = refl
 was-full m (added·is.Used k) e = let n : _≡_ {A = ℕ} 0 1 = cc in absurd (omega arith)
 
@@ -375,14 +375,14 @@ module _ {main₀ ports₀ trail₀ : List ℕ} {m₀ : Machine} {used budget : 
           go phases.Lacking q z = rw (ap (λ (x : End). x .stores) z, ap (λ (x : End). x .trail) z) (leaves-unfitted (sym q))
           go (phases.Go c) q z = absurd (not-unfitted (c .machine) (finished m c (ram main ports) trail count .answered) (sym f ∙ ap (λ (x : End). x .answer) z))
 
-      pub leaves-without-room : a ≡ stepped·is.Full
+      pub leaves-without-room : a ≡ stepped·is.NoRoom
           → record { bench = record { state = state m r; trail = t; used = count }; steps = steps; ended = ending.Full } ≡ over-and-over budget (bench m₀ main₀ ports₀ trail₀ used)
       leaves-without-room f = go (planned (state m (ram main ports))) refl h
         where
           go : (p : Plan) → planned (state m (ram main ports)) ≡ p → ended a r t ≡ by-plan m (ram main ports) trail count p
               → record { bench = record { state = state m r; trail = t; used = count }; steps = steps; ended = ending.Full } ≡ over-and-over budget (bench m₀ main₀ ports₀ trail₀ used)
           go phases.Lacking q z =
-              let y : stepped·is.Full ≡ stepped·is.Unfitted = sym f ∙ ap (λ (x : End). x .answer) z in
+              let y : stepped·is.NoRoom ≡ stepped·is.Unfitted = sym f ∙ ap (λ (x : End). x .answer) z in
               let n : _≡_ {A = ℕ} 0 1 = cc in
               absurd (omega arith)
           go (phases.Go c) q z =

@@ -33,6 +33,7 @@ ghost use Rattle.viper.specs.TakingBack.{back-outcome};
 ghost use Rattle.viper.specs.Told.{bench, told, run-told};
 ghost use Rattle.viper.specs.declared.Answer.the-variants.{Refused};
 ghost use Rattle.step.specs.Lawful.{Lawful};
+ghost use Rattle.step.specs.Phases.{held};
 ghost use Rattle.viper.specs.Judging.{first-refusals, ran-told, answer-by};
 
 // Refusals 1 to 3, by P, the words of both stores, the bytes of the trail and those in use.
@@ -73,7 +74,22 @@ struct Advanced {
     ending: Ending,
 }
 
-// Steps until STOP is set, the budget is used up, or a step is refused. It alone steps.
+// The machine whose A, X and Y stand first among the sources.
+fn machine_held(sources: &[u32; 4], p: u32, b: bool, stop: bool) -> Machine
+    ensures { λ r. ⌜ r ≡ held (now (sources .entry)) p b stop ⌝ }
+{
+    Machine {
+        a: sources[0],
+        x: sources[1],
+        y: sources[2],
+        p,
+        b,
+        stop,
+    }
+}
+
+// Steps until STOP is set, the budget is used up, or a step is refused. It alone steps. In the loop the machine is in pieces: A, X and Y, with
+// a fourth place for N, are an array, so that a step finds a register by its number.
 fn advance(
     m: Machine,
     main: &mut [u32],
@@ -86,27 +102,32 @@ fn advance(
     ensures { λ r. ⌜ ran-told r (now (main .exit)) (now (ports .exit)) (now (trail .exit)) ≡ over-and-over budget (bench m (now (main .entry)) (now (ports .entry)) (now (trail .entry)) used) ⌝ }
 {
     let table = instruction::class_table();
-    let mut current = m;
+    let mut sources = [m.a, m.x, m.y, 0];
+    let mut p = m.p;
+    let mut b = m.b;
+    let mut stop = m.stop;
     let mut count = used;
     let mut steps: u32 = 0;
-    while !current.stop {
+    while !stop {
         if steps == budget {
             return Advanced {
-                machine: current,
+                machine: machine_held(&sources, p, b, stop),
                 used: count,
                 steps,
                 ending: Ending::Budget,
             };
         }
-        let stepped = step_once(&table, current, main, ports, trail, count);
+        let stepped = step_once(&table, &mut sources, p, b, main, ports, trail, count);
         match stepped {
-            Stepped::Done(after, n) => {
-                current = after;
+            Stepped::Done(next, test, halt, n) => {
+                p = next;
+                b = test;
+                stop = halt;
                 count = n;
             }
             Stepped::Unfitted => {
                 return Advanced {
-                    machine: current,
+                    machine: machine_held(&sources, p, b, stop),
                     used: count,
                     steps,
                     ending: Ending::Unfitted,
@@ -114,7 +135,7 @@ fn advance(
             }
             Stepped::Full => {
                 return Advanced {
-                    machine: current,
+                    machine: machine_held(&sources, p, b, stop),
                     used: count,
                     steps,
                     ending: Ending::Full,
@@ -124,7 +145,7 @@ fn advance(
         steps += 1;
     }
     Advanced {
-        machine: current,
+        machine: machine_held(&sources, p, b, stop),
         used: count,
         steps,
         ending: Ending::Stopped,

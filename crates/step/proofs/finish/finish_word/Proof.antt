@@ -1,10 +1,13 @@
 -- The record is that of an operation that wrote this word, and then the word is put.
-use denote.Ref.{now}
+use mathlib.Core.List.{List}
 use mathlib.Core.Bool.{false}
+use Prim.Native.Nat.{ℕ}
+use denote.Ref.{now}
 use Rattle.machine.specs.Held.{ram}
 use Rattle.step.specs.Phases as phases
+use Rattle.step.specs.Phases.{held}
 use Rattle.step.specs.Finishing.{changed-to}
-use Rattle.step.proofs.Completing.{with-flags-of, kept-values, completes-full, completes, written-over}
+use Rattle.step.proofs.Completing.{kept-values, completes-full, completes, written-over}
 use borrow.Author.Needs.{needs}
 use Rattle.step.proofs.finish.finish_word.Statement.{statement}
 use Rattle.step.proofs.finish.finish_word.Tie as tie
@@ -32,12 +35,11 @@ same-length-3 c = search needs
 
 returns : tie.Need-returns
 returns c =
-    let s = c .before .before .before .before .before .before .before .before .before .before .before .before in
-    let a = s .args in
+    let a = c .before .before .before .before .before .before .before .before .before .before .before .before .args in
     let old = c .before .before .before .before .before .before .word-at .result in
     let stores = ram (now (a .main)) (now (a .ports)) in
-    completes-full (a .m) (record { machine = with-flags-of (a .m) (a .p) (a .m .b) false; written = phases.Word (a .place) (a .v) }) stores (now (a .trail)) (a .used) (changed-to (a .place) old (a .v)) _ _ _
-    (written-over stores (a .place) old (a .v) (c .before .before .before .before .before .before .word-at .ensures)) (kept-values (a .m) (a .p) (a .m .b) false (changed-to (a .place) old (a .v))) (c .before .before .before .before .note-word .ensures) (c .enum-told .given .1)
+    λ (g : List ℕ). completes-full (held g (a .p0) (a .b0) false) (record { machine = held g (a .p) (a .b0) false; written = phases.Word (a .place) (a .v) }) stores (now (a .trail)) (a .used) (changed-to (a .place) old (a .v)) _ _ _
+    (written-over stores (a .place) old (a .v) (c .before .before .before .before .before .before .word-at .ensures)) (kept-values g (a .p0) (a .p) (a .b0) (a .b0) false (changed-to (a .place) old (a .v))) (c .before .before .before .before .note-word .ensures) (c .enum-told .given .1)
 
 put-word-requires : tie.Need-put-word-requires
 put-word-requires c κs = search needs
@@ -53,14 +55,12 @@ same-length-6 c = search needs
 
 returns-2 : tie.Need-returns-2
 returns-2 c =
-    let s = c .before .before .before .before .before .before .before .before .before .before .before .before .before .before .before .before .before .before .before .before in
-    let a = s .args in
+    let a = c .before .before .before .before .before .before .before .before .before .before .before .before .before .before .before .before .before .before .before .before .args in
     let old = c .before .before .before .before .before .before .before .before .before .before .before .before .before .before .word-at .result in
-    let n = c .before .before .before .before .before .before .before .before in
     let stores = ram (now (a .main)) (now (a .ports)) in
-    completes (a .m) (record { machine = with-flags-of (a .m) (a .p) (a .m .b) false; written = phases.Word (a .place) (a .v) }) stores (now (a .trail)) (a .used) (changed-to (a .place) old (a .v)) _ _ _
-    (written-over stores (a .place) old (a .v) (c .before .before .before .before .before .before .before .before .before .before .before .before .before .before .word-at .ensures)) (kept-values (a .m) (a .p) (a .m .b) false (changed-to (a .place) old (a .v))) (c .before .before .before .before .before .before .before .before .before .before .before .before .note-word .ensures)
-    (n .n .given .0 .0) (ram (c .before .before .before .before .put-word .last .0) (c .before .before .before .before .put-word .last .1 .0)) (n .n .given .1) (c .before .before .before .before .put-word .ensures)
+    λ (g : List ℕ). completes (held g (a .p0) (a .b0) false) (record { machine = held g (a .p) (a .b0) false; written = phases.Word (a .place) (a .v) }) stores (now (a .trail)) (a .used) (changed-to (a .place) old (a .v)) _ _ _
+    (written-over stores (a .place) old (a .v) (c .before .before .before .before .before .before .before .before .before .before .before .before .before .before .word-at .ensures)) (kept-values g (a .p0) (a .p) (a .b0) (a .b0) false (changed-to (a .place) old (a .v))) (c .before .before .before .before .before .before .before .before .before .before .before .before .note-word .ensures)
+    (c .before .before .before .before .before .before .before .before .n .given .0 .0) (ram (c .before .before .before .before .put-word .last .0) (c .before .before .before .before .put-word .last .1 .0)) (c .before .before .before .before .before .before .before .before .n .given .1) (c .before .before .before .before .put-word .ensures)
 
 pub finish-word-spec : {M : Type 1} → statement M
 finish-word-spec =

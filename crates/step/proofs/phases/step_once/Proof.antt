@@ -1,33 +1,60 @@
 -- Each way out is one of Completing's, at the values that the phases gave.
-use mathlib.Core.Path.{sym, ap, _∙_}
-use Prim.Native.Nat.{_<_, _^_}
+use mathlib.Core.Path.{_≡_, refl, sym, ap, subst, _∙_}
+use mathlib.Core.Bool.{false}
+use mathlib.Core.List.{List}
+use Prim.Native.Nat.{ℕ, _+_, _%_, _^_, _<_}
 use native.Mathlib.Omega.{arith}
+use native.Mathlib.Nat.{mod-eq-of-lt}
+use lib.ListN.{length, getD, set, length-set}
+use lib.Seq.{getD-set-same, getD-set-other}
 use borrow.Author.Tests.{not-true, not-false}
 use denote.Ref.{now}
 use Rattle.report.specs.Parts.{InRange}
-use Rattle.machine.specs.Held.{ram, state, where-of}
-use Rattle.instruction.specs.PartOf.{part-of}
-use Rattle.step.proofs.Completing.{fetch-lacking, halts-once, skips-once, compares-once, compares-lacking, writes-once, writes-lacking, register, computes-once, computes-lacking, jump-dsf, jump-fsf, jumps-once, jumps-lacking}
 use Rattle.report.proofs.Stores.{fitted-low}
+use Rattle.machine.specs.Held.{ram, state, where-of}
+use Rattle.machine.specs.declared.Machine.{Machine}
+use Rattle.step.specs.Phases.{held, next-p, Decodes}
+use Rattle.step.specs.Finishing.{once}
+use Rattle.step.proofs.Planning.{was-fetched}
+use Rattle.step.proofs.Completing.{kept-same, kept-before, fourth, fetch-lacking, top-once, compares-held, compares-bad, compares-lacking, always-once, write-bad, writes-once, writes-lacking}
 use borrow.Author.Needs.{needs}
 use Rattle.step.proofs.phases.step_once.Statement.{statement}
 use Rattle.step.proofs.phases.step_once.Tie as tie
 
-registers : (s : tie.Start) → (s .args .m .a < 2 ^ 32) × (s .args .m .x < 2 ^ 32) × (s .args .m .y < 2 ^ 32)
-registers s = (omega arith, omega arith, omega arith)
+-- Once R is taken: the sources with N, the words in range, and the word decoded.
+abbrev start : tie.After-register → tie.Start
+start q = q .before .before .before .before .before .before .before .before .before .before .before .before .before
 
-in-range : (q : tie.After-decode) → let s = q .before .before .before .before .before .before .before .before .before in InRange (state (s .args .m) (ram (now (s .args .main)) (now (s .args .ports))))
+abbrev sources : tie.After-register → List ℕ
+sources q = let a = start q .args in set (now (a .sources)) 3 (a .p + 1)
+
+sized : (q : tie.After-register) → length (sources q) ≡ 4
+sized q = let s = start q in length-set (now (s .args .sources)) 3 (s .args .p + 1) ∙ s .pre .1 .0 .1
+
+in-range : (q : tie.After-register) → let a = start q .args in InRange (state (held (sources q) (a .p) (a .b) false) (ram (now (a .main)) (now (a .ports))))
 in-range q =
-    let k = q .before .before .before .before .before .before in
-    let s = q .before .before .before .before .before .before .before .before .before in
+    let a = start q .args in
+    subst (λ (m : Machine). InRange (state m (ram (now (a .main)) (now (a .ports))))) (sym (fourth (now (a .sources)) (a .p + 1) (a .p) (a .b) false)) (start q .pre .1 .1)
+
+decodes : (q : tie.After-register) → let a = start q .args in Decodes (held (sources q) (a .p) (a .b) false) (now (a .main)) (q .before .before .take-apart .result) (q .before .before .before .class-of .result) (q .register .result)
+decodes q =
+    let s = start q in
+    let a = s .args in
+    let w = was-fetched (now (a .main)) (a .p) _ (sym (q .before .before .before .before .before .before .before .before .fetch .ensures) ∙ q .before .before .before .before .before .before .w .given .1) in
+    let low : a .p + 1 < 2 ^ 20 = omega (arith, s .pre .1 .0 .0 .p-lt, q .before .before .before .before .if1 .left) in
+    let n : getD (sources q) 3 0 ≡ next-p (held (sources q) (a .p) (a .b) false) = getD-set-same (now (a .sources)) 3 (a .p + 1) 0 (omega (arith, s .pre .1 .0 .1)) ∙ sym (mod-eq-of-lt low) in
     record {
-      p-lt = s .pre .1 .0 .p-lt;
-      a-lt = registers s .0;
-      x-lt = registers s .1;
-      y-lt = registers s .2;
-      main-lt = λ i. omega (arith, k .before .before .slice-known .given i);
-      ports-lt = λ i. omega (arith, k .before .slice-known2 .given i);
+      fetches = w .0;
+      low = low;
+      fields = rw (w .1) at (q .before .before .take-apart .ensures);
+      classed = rw (w .1) at (q .before .before .before .class-of .ensures);
+      source = rw (← n) (q .register .ensures);
     }
+
+fields-low : (q : tie.After-register) → let f = q .before .before .take-apart .result in (f .msf < 4) × (f .addr < 2 ^ 20) × (getD (sources q) 1 0 < 2 ^ 32) × (getD (sources q) 2 0 < 2 ^ 32)
+fields-low q =
+    let e = q .before .before .take-apart .ensures in
+    (omega (arith, e .of-msf), omega (arith, e .of-addr), in-range q .x-lt, in-range q .y-lt)
 
 fetch-requires : tie.Need-fetch-requires
 fetch-requires c κs = search needs
@@ -44,175 +71,183 @@ same-length c = search needs
 returns : tie.Need-returns
 returns c =
     let s = c .before .before .before .before .before .before .before in
-    fetch-lacking (s .args .m) (now (s .args .main)) (now (s .args .ports)) (now (s .args .trail)) (s .args .used) (sym (c .before .before .fetch .ensures) ∙ c .enum-told .given .1)
-
-decode-requires : tie.Need-decode-requires
-decode-requires c κs = search needs
-
-enum-told-2 : tie.Need-enum-told-2
-enum-told-2 c = search needs
+    let a = s .args in
+    (refl, fetch-lacking (held (now (a .sources)) (a .p) (a .b) false) (now (a .main)) (now (a .ports)) (now (a .trail)) (a .used) (sym (c .before .before .fetch .ensures) ∙ c .enum-told .given .1))
 
 finish-flags-requires : tie.Need-finish-flags-requires
 finish-flags-requires c κs = search needs
 
-enum-told-3 : tie.Need-enum-told-3
-enum-told-3 c = search needs
-
-constant-or-read-requires : tie.Need-constant-or-read-requires
-constant-or-read-requires c κs = search needs
-
-enum-known-r : tie.Need-enum-known-r
-enum-known-r c = search needs
-
-enum-told-4 : tie.Need-enum-told-4
-enum-told-4 c = search needs
-
 same-length-2 : tie.Need-same-length-2
 same-length-2 c = search needs
 
+same-length-3 : tie.Need-same-length-3
+same-length-3 c = search needs
+
 returns-2 : tie.Need-returns-2
 returns-2 c =
-    let q = c .before .before .before .before .before .before .before in
-    let s = q .before .before .before .before .before .before .before .before .before in
-    compares-lacking (s .args .m) (now (s .args .main)) (now (s .args .ports)) (q .before .before .w .given .0 .0) (q .decode .result) (in-range q) (s .pre .1 .1) (sym (q .before .before .before .before .fetch .ensures) ∙ q .before .before .w .given .1) (q .decode .ensures) (now (s .args .trail)) (s .args .used) (ap part-of (c .before .before .before .before .enum-told3 .given .1)) (c .before .before .constant-or-read .ensures) (c .enum-told4 .given .1)
+    let s = c .before .before .before .before .before .before .before .before .before .before .before .before .before in
+    let a = s .args in
+    let g = now (a .sources) in
+    let main = now (a .main) in
+    let ports = now (a .ports) in (
+      kept-same (c .before .before .finish-flags .result) g,
+      top-once g (a .p) (a .b) main ports (s .pre .1 .1) (was-fetched main (a .p) _ (sym (c .before .before .before .before .before .before .before .before .fetch .ensures) ∙ c .before .before .before .before .before .before .w .given .1) .0) (now (a .trail)) (a .used) (c .before .before .before .before .if1 .taken) (c .before .before .finish-flags .ensures (ram main ports) g),
+    )
+
+add-next : tie.Need-add-next
+add-next c = search needs
+
+element-write-sources : tie.Need-element-write-sources
+element-write-sources c = search needs
+
+class-of-requires : tie.Need-class-of-requires
+class-of-requires c κs = search needs
+
+take-apart-requires : tie.Need-take-apart-requires
+take-apart-requires c κs = search needs
+
+register-requires : tie.Need-register-requires
+register-requires c κs =
+    let s = c .before .before .before .before .before .before .before .before .before .before .before .before in
+    let g = now (s .args .sources) in
+    let n : getD (set g 3 (s .args .p + 1)) 3 0 ≡ s .args .p + 1 = getD-set-same g 3 (s .args .p + 1) 0 (omega (arith, s .pre .1 .0 .1)) in
+    (omega (arith, c .before .take-apart .ensures .of-rsf), rw n (omega (arith, s .pre .1 .0 .0 .p-lt, c .before .before .before .if1 .left)))
+
+constant-or-read-requires : tie.Need-constant-or-read-requires
+constant-or-read-requires c κs =
+    let q = c .before .before .before .before in
+    let s = start q in
+    let a = s .args in
+    let main = now (a .main) in
+    let ports = now (a .ports) in
+    fields-low q
+
+enum-known-o : tie.Need-enum-known-o
+enum-known-o c = search needs
 
 compare-requires : tie.Need-compare-requires
 compare-requires c κs = search needs
 
 finish-flags-requires-2 : tie.Need-finish-flags-requires-2
 finish-flags-requires-2 c κs =
-    let s = c .before .before .before .before .before .before .before .before .before .before .before .before .before .before .before .before .before .before .before in
-    (s .pre .1 .0 .p-lt, s .pre .1 .0 .used-le)
+    let s = c .before .before .before .before .before .before .before .before .before .before .before .before .before .before .before .before .before .before .before .before .before .before .before in (s .pre .1 .0 .0 .p-lt, s .pre .1 .0 .0 .used-le)
 
-enum-told-5 : tie.Need-enum-told-5
-enum-told-5 c = search needs
+same-length-4 : tie.Need-same-length-4
+same-length-4 c = search needs
+
+same-length-5 : tie.Need-same-length-5
+same-length-5 c = search needs
+
+returns-3 : tie.Need-returns-3
+returns-3 c =
+    let q = c .before .before .before .before .before .before .before .before .before .before .before .before .before in
+    let s = start q in
+    let a = s .args in
+    let main = now (a .main) in
+    let ports = now (a .ports) in (
+      kept-before (c .before .before .finish-flags2 .result) (now (a .sources)) (sources q) (a .p + 1) (kept-same (c .before .before .finish-flags2 .result) (sources q)),
+      compares-held (sources q) (a .p) (a .b) main ports (q .before .before .take-apart .result) (q .before .before .before .class-of .result) (q .register .result) (in-range q) (decodes q) (now (a .trail)) (a .used) (c .before .before .before .before .before .before .before .before .before .before .before .if3 .taken) (c .before .before .before .before .before .before .before .before .constant-or-read .ensures) (c .before .before .before .before .before .before .o .given .1) (c .before .before .before .before .compare .ensures) (c .before .before .finish-flags2 .ensures (ram main ports) (sources q))
+          ∙ ap (λ (m : Machine). once m (ram main ports) (now (a .trail)) (a .used)) (fourth (now (a .sources)) (a .p + 1) (a .p) (a .b) false),
+    )
+
+enum-told-2 : tie.Need-enum-told-2
+enum-told-2 c = search needs
+
+finish-flags-requires-3 : tie.Need-finish-flags-requires-3
+finish-flags-requires-3 c κs = search needs
+
+same-length-6 : tie.Need-same-length-6
+same-length-6 c = search needs
+
+same-length-7 : tie.Need-same-length-7
+same-length-7 c = search needs
+
+returns-4 : tie.Need-returns-4
+returns-4 c =
+    let q = c .before .before .before .before .before .before .before .before .before .before .before in
+    let s = start q in
+    let a = s .args in
+    let main = now (a .main) in
+    let ports = now (a .ports) in (
+      kept-before (c .before .before .finish-flags3 .result) (now (a .sources)) (sources q) (a .p + 1) (kept-same (c .before .before .finish-flags3 .result) (sources q)),
+      compares-bad (sources q) (a .p) (a .b) main ports (q .before .before .take-apart .result) (q .before .before .before .class-of .result) (q .register .result) (in-range q) (decodes q) (now (a .trail)) (a .used) (c .before .before .before .before .before .before .before .before .before .if3 .taken) (c .before .before .before .before .before .before .constant-or-read .ensures) (c .before .before .before .before .enum-told2 .given .1) (c .before .before .finish-flags3 .ensures (ram main ports) (sources q))
+          ∙ ap (λ (m : Machine). once m (ram main ports) (now (a .trail)) (a .used)) (fourth (now (a .sources)) (a .p + 1) (a .p) (a .b) false),
+    )
+
+enum-told-3 : tie.Need-enum-told-3
+enum-told-3 c = search needs
+
+same-length-8 : tie.Need-same-length-8
+same-length-8 c = search needs
+
+returns-5 : tie.Need-returns-5
+returns-5 c =
+    let q = c .before .before .before .before .before .before .before in
+    let s = start q in
+    let a = s .args in
+    let main = now (a .main) in
+    let ports = now (a .ports) in (
+      sym (fourth (now (a .sources)) (a .p + 1) 0 false false),
+      compares-lacking (sources q) (a .p) (a .b) main ports (q .before .before .take-apart .result) (q .before .before .before .class-of .result) (q .register .result) (in-range q) (decodes q) (now (a .trail)) (a .used) (c .before .before .before .before .before .if3 .taken) (c .before .before .constant-or-read .ensures) (c .enum-told3 .given .1)
+          ∙ ap (λ (m : Machine). once m (ram main ports) (now (a .trail)) (a .used)) (fourth (now (a .sources)) (a .p + 1) (a .p) (a .b) false),
+    )
+
+finish-flags-requires-4 : tie.Need-finish-flags-requires-4
+finish-flags-requires-4 c κs = search needs
+
+same-length-9 : tie.Need-same-length-9
+same-length-9 c = search needs
+
+same-length-10 : tie.Need-same-length-10
+same-length-10 c = search needs
+
+returns-6 : tie.Need-returns-6
+returns-6 c =
+    let q = c .before .before .before .before .before .before .before in
+    let s = start q in
+    let a = s .args in
+    let main = now (a .main) in
+    let ports = now (a .ports) in (
+      kept-before (c .before .before .finish-flags4 .result) (now (a .sources)) (sources q) (a .p + 1) (kept-same (c .before .before .finish-flags4 .result) (sources q)),
+      always-once (sources q) (a .p) (a .b) main ports (q .before .before .take-apart .result) (q .before .before .before .class-of .result) (q .register .result) (in-range q) (decodes q) (now (a .trail)) (a .used) (c .before .before .before .before .if4 .taken) (c .before .before .finish-flags4 .ensures (ram main ports) (sources q))
+          ∙ ap (λ (m : Machine). once m (ram main ports) (now (a .trail)) (a .used)) (fourth (now (a .sources)) (a .p + 1) (a .p) (a .b) false),
+    )
+
+address-requires : tie.Need-address-requires
+address-requires c κs =
+    let q = c .before .before .before .before in
+    let s = start q in
+    let a = s .args in
+    let main = now (a .main) in
+    let ports = now (a .ports) in
+    fields-low q
+
+finish-flags-requires-5 : tie.Need-finish-flags-requires-5
+finish-flags-requires-5 c κs = search needs
+
+same-length-11 : tie.Need-same-length-11
+same-length-11 c = search needs
+
+same-length-12 : tie.Need-same-length-12
+same-length-12 c = search needs
+
+returns-7 : tie.Need-returns-7
+returns-7 c =
+    let q = c .before .before .before .before .before .before .before .before .before .before in
+    let s = start q in
+    let a = s .args in
+    let main = now (a .main) in
+    let ports = now (a .ports) in (
+      kept-before (c .before .before .finish-flags5 .result) (now (a .sources)) (sources q) (a .p + 1) (kept-same (c .before .before .finish-flags5 .result) (sources q)),
+      write-bad (sources q) (a .p) (a .b) main ports (q .before .before .take-apart .result) (q .before .before .before .class-of .result) (q .register .result) (in-range q) (decodes q) (now (a .trail)) (a .used) (c .before .before .before .before .before .before .before .before .before .if2 .taken) (c .before .before .before .before .before .before .before .before .if3 .left) (c .before .before .before .before .before .before .before .if4 .left) (omega (arith, c .before .before .before .before .before .address .ensures, c .before .before .before .before .if5 .taken)) (c .before .before .finish-flags5 .ensures (ram main ports) (sources q))
+          ∙ ap (λ (m : Machine). once m (ram main ports) (now (a .trail)) (a .used)) (fourth (now (a .sources)) (a .p + 1) (a .p) (a .b) false),
+    )
 
 place-of-requires : tie.Need-place-of-requires
 place-of-requires c κs = search needs
 
 is-fitted-requires : tie.Need-is-fitted-requires
 is-fitted-requires c κs = search needs
-
-same-length-3 : tie.Need-same-length-3
-same-length-3 c = search needs
-
-same-length-4 : tie.Need-same-length-4
-same-length-4 c = search needs
-
-returns-3 : tie.Need-returns-3
-returns-3 c =
-    let q = c .before .before .before .before .before .before .before .before in
-    let s = q .before .before .before .before .before .before .before .before .before in
-    writes-lacking (s .args .m) (now (s .args .main)) (now (s .args .ports)) (q .before .before .w .given .0 .0) (q .decode .result) (in-range q) (s .pre .1 .1) (sym (q .before .before .before .before .fetch .ensures) ∙ q .before .before .w .given .1) (q .decode .ensures) (now (s .args .trail)) (s .args .used) (c .before .before .before .before .before .enum-told5 .given .1) (c .before .before .before .before .place-of .ensures) (c .before .is-fitted .ensures) (not-true _ (c .if1 .taken))
-
-finish-word-requires : tie.Need-finish-word-requires
-finish-word-requires c κs =
-    let s = c .before .before .before .before .before .before .before .before .before .before .before .before .before .before .before .before .before .before .before .before in
-    let q = c .before .before .before .before .before .before .before .place-of .result in
-    let main = now (s .args .main) in
-    let ports = now (s .args .ports) in
-    let has = sym (c .before .before .before .before .is-fitted .ensures) ∙ not-false _ (c .before .before .before .if1 .left) in
-    ((s .pre .1 .0 .p-lt, s .pre .1 .0 .used-le), record { has = has; low = fitted-low (ram main ports) (where-of q) (s .pre .1 .0 .main-le) (s .pre .1 .0 .ports-le) has })
-
-enum-told-6 : tie.Need-enum-told-6
-enum-told-6 c = search needs
-
-finish-flags-requires-3 : tie.Need-finish-flags-requires-3
-finish-flags-requires-3 c κs = search needs
-
-enum-told-7 : tie.Need-enum-told-7
-enum-told-7 c = search needs
-
-operand-requires : tie.Need-operand-requires
-operand-requires c κs = search needs
-
-enum-known-r-2 : tie.Need-enum-known-r-2
-enum-known-r-2 c = search needs
-
-enum-told-8 : tie.Need-enum-told-8
-enum-told-8 c = search needs
-
-same-length-5 : tie.Need-same-length-5
-same-length-5 c = search needs
-
-same-length-6 : tie.Need-same-length-6
-same-length-6 c = search needs
-
-returns-4 : tie.Need-returns-4
-returns-4 c =
-    let q = c .before .before .before .before .before .before .before .before in
-    let s = q .before .before .before .before .before .before .before .before .before in
-    computes-lacking (s .args .m) (now (s .args .main)) (now (s .args .ports)) (q .before .before .w .given .0 .0) (q .decode .result) (in-range q) (s .pre .1 .1) (sym (q .before .before .before .before .fetch .ensures) ∙ q .before .before .w .given .1) (q .decode .ensures) (now (s .args .trail)) (s .args .used) (c .before .before .before .before .before .enum-told7 .given .1) (c .before .before .operand .ensures) (c .enum-told8 .given .1)
-
-alu-register-requires : tie.Need-alu-register-requires
-alu-register-requires c κs = search needs
-
-deliver-requires : tie.Need-deliver-requires
-deliver-requires c κs =
-    let q = c .before .before .before .before .before .before .before .before .before .before .before in
-    let s = q .before .before .before .before .before .before .before .before .before in
-    let k = register (s .args .m) (now (s .args .main)) (now (s .args .ports)) (q .before .before .w .given .0 .0) (q .decode .result) (in-range q) (s .pre .1 .1) (sym (q .before .before .before .before .fetch .ensures) ∙ q .before .before .w .given .1) (q .decode .ensures) (now (s .args .trail)) (s .args .used) (c .before .before .before .before .before .before .before .before .enum-told7 .given .1) in
-    (s .pre .1 .0 .p-lt, s .pre .1 .0 .used-le, k .0, k .1)
-
-enum-told-9 : tie.Need-enum-told-9
-enum-told-9 c = search needs
-
-constant-or-read-requires-2 : tie.Need-constant-or-read-requires-2
-constant-or-read-requires-2 c κs = search needs
-
-enum-known-r-3 : tie.Need-enum-known-r-3
-enum-known-r-3 c = search needs
-
-enum-told-10 : tie.Need-enum-told-10
-enum-told-10 c = search needs
-
-same-length-7 : tie.Need-same-length-7
-same-length-7 c = search needs
-
-returns-5 : tie.Need-returns-5
-returns-5 c =
-    let q = c .before .before .before .before .before .before .before in
-    let s = q .before .before .before .before .before .before .before .before .before in
-    jumps-lacking (s .args .m) (now (s .args .main)) (now (s .args .ports)) (q .before .before .w .given .0 .0) (q .decode .result) (in-range q) (s .pre .1 .1) (sym (q .before .before .before .before .fetch .ensures) ∙ q .before .before .w .given .1) (q .decode .ensures) (now (s .args .trail)) (s .args .used) (c .before .before .before .before .enum-told9 .given .1) (c .before .before .constant-or-read2 .ensures) (c .enum-told10 .given .1)
-
-alu-jump-requires : tie.Need-alu-jump-requires
-alu-jump-requires c κs =
-    let q = c .before .before .before .before .before .before .before .before in
-    let s = q .before .before .before .before .before .before .before .before .before in
-    jump-fsf (s .args .m) (now (s .args .main)) (now (s .args .ports)) (q .before .before .w .given .0 .0) (q .decode .result) (in-range q) (s .pre .1 .1) (sym (q .before .before .before .before .fetch .ensures) ∙ q .before .before .w .given .1) (q .decode .ensures) (now (s .args .trail)) (s .args .used) (c .before .before .before .before .before .enum-told9 .given .1)
-
-jump-requires : tie.Need-jump-requires
-jump-requires c κs =
-    let q = c .before .before .before .before .before .before .before .before .before .before in
-    let s = q .before .before .before .before .before .before .before .before .before in
-    (s .pre .1 .0 .p-lt, s .pre .1 .0 .used-le, jump-dsf (s .args .m) (now (s .args .main)) (now (s .args .ports)) (q .before .before .w .given .0 .0) (q .decode .result) (in-range q) (s .pre .1 .1) (sym (q .before .before .before .before .fetch .ensures) ∙ q .before .before .w .given .1) (q .decode .ensures) (now (s .args .trail)) (s .args .used) (c .before .before .before .before .before .before .before .enum-told9 .given .1))
-
-same-length-8 : tie.Need-same-length-8
-same-length-8 c = search needs
-
-same-length-9 : tie.Need-same-length-9
-same-length-9 c = search needs
-
-returns-6 : tie.Need-returns-6
-returns-6 c =
-    let q = c .before .before .before .before .before .before .before in
-    let s = q .before .before .before .before .before .before .before .before .before in
-    halts-once (s .args .m) (now (s .args .main)) (now (s .args .ports)) (q .before .before .w .given .0 .0) (q .decode .result) (in-range q) (s .pre .1 .1) (sym (q .before .before .before .before .fetch .ensures) ∙ q .before .before .w .given .1) (q .decode .ensures) (now (s .args .trail)) (s .args .used) (ap part-of (c .before .before .before .before .enum-told2 .given .1)) (c .before .before .finish-flags .ensures (ram (now (s .args .main)) (now (s .args .ports))))
-
-same-length-10 : tie.Need-same-length-10
-same-length-10 c = search needs
-
-same-length-11 : tie.Need-same-length-11
-same-length-11 c = search needs
-
-returns-7 : tie.Need-returns-7
-returns-7 c =
-    let q = c .before .before .before .before .before .before .before .before .before .before .before .before .before in
-    let s = q .before .before .before .before .before .before .before .before .before in
-    compares-once (s .args .m) (now (s .args .main)) (now (s .args .ports)) (q .before .before .w .given .0 .0) (q .decode .result) (in-range q) (s .pre .1 .1) (sym (q .before .before .before .before .fetch .ensures) ∙ q .before .before .w .given .1) (q .decode .ensures) (now (s .args .trail)) (s .args .used) (ap part-of (c .before .before .before .before .before .before .before .before .before .before .enum-told3 .given .1)) (c .before .before .before .before .before .before .before .before .constant-or-read .ensures) (c .before .before .before .before .before .before .r .given .1) (c .before .before .before .before .compare .ensures) (c .before .before .finish-flags2 .ensures (ram (now (s .args .main)) (now (s .args .ports))))
-
-same-length-12 : tie.Need-same-length-12
-same-length-12 c = search needs
 
 same-length-13 : tie.Need-same-length-13
 same-length-13 c = search needs
@@ -222,9 +257,24 @@ same-length-14 c = search needs
 
 returns-8 : tie.Need-returns-8
 returns-8 c =
-    let q = c .before .before .before .before .before .before .before .before .before .before .before .before .before .before .before .before .before .before in
-    let s = q .before .before .before .before .before .before .before .before .before in
-    writes-once (s .args .m) (now (s .args .main)) (now (s .args .ports)) (q .before .before .w .given .0 .0) (q .decode .result) (in-range q) (s .pre .1 .1) (sym (q .before .before .before .before .fetch .ensures) ∙ q .before .before .w .given .1) (q .decode .ensures) (now (s .args .trail)) (s .args .used) (c .before .before .before .before .before .before .before .before .before .before .before .before .before .before .before .enum-told5 .given .1) (c .before .before .before .before .before .before .before .before .before .before .before .before .before .before .place-of .ensures) (c .before .before .before .before .before .before .before .before .before .before .before .is-fitted .ensures) (not-false _ (c .before .before .before .before .before .before .before .before .before .before .if1 .left)) (c .before .before .before .before .before .before .finish-word .ensures)
+    let q = c .before .before .before .before .before .before .before .before .before .before .before in
+    let s = start q in
+    let a = s .args in
+    let main = now (a .main) in
+    let ports = now (a .ports) in (
+      sym (fourth (now (a .sources)) (a .p + 1) 0 false false),
+      writes-lacking (sources q) (a .p) (a .b) main ports (q .before .before .take-apart .result) (q .before .before .before .class-of .result) (q .register .result) (in-range q) (decodes q) (now (a .trail)) (a .used) (c .before .before .before .before .before .before .before .before .before .before .if2 .taken) (c .before .before .before .before .before .before .before .before .before .if3 .left) (c .before .before .before .before .before .before .before .before .if4 .left) (omega (arith, c .before .before .before .before .before .before .address .ensures, c .before .before .before .before .before .if5 .left)) (rw (c .before .before .before .before .before .before .address .ensures) at (c .before .before .before .before .place-of .ensures)) (c .before .is-fitted .ensures) (not-true _ (c .if6 .taken))
+          ∙ ap (λ (m : Machine). once m (ram main ports) (now (a .trail)) (a .used)) (fourth (now (a .sources)) (a .p + 1) (a .p) (a .b) false),
+    )
+
+finish-word-requires : tie.Need-finish-word-requires
+finish-word-requires c κs =
+    let s = c .before .before .before .before .before .before .before .before .before .before .before .before .before .before .before .before .before .before .before .before .before .before .before .before .before .before .before in
+    let q = c .before .before .before .before .before .before .before .place-of .result in
+    let main = now (s .args .main) in
+    let ports = now (s .args .ports) in
+    let has = sym (c .before .before .before .before .is-fitted .ensures) ∙ not-false _ (c .before .before .before .if6 .left) in
+    ((s .pre .1 .0 .0 .p-lt, s .pre .1 .0 .0 .used-le), record { has = has; low = fitted-low (ram main ports) (where-of q) (s .pre .1 .0 .0 .main-le) (s .pre .1 .0 .0 .ports-le) has })
 
 same-length-15 : tie.Need-same-length-15
 same-length-15 c = search needs
@@ -232,14 +282,29 @@ same-length-15 c = search needs
 same-length-16 : tie.Need-same-length-16
 same-length-16 c = search needs
 
-returns-9 : tie.Need-returns-9
-returns-9 c =
-    let q = c .before .before .before .before .before .before .before in
-    let s = q .before .before .before .before .before .before .before .before .before in
-    skips-once (s .args .m) (now (s .args .main)) (now (s .args .ports)) (q .before .before .w .given .0 .0) (q .decode .result) (in-range q) (s .pre .1 .1) (sym (q .before .before .before .before .fetch .ensures) ∙ q .before .before .w .given .1) (q .decode .ensures) (now (s .args .trail)) (s .args .used) (ap part-of (c .before .before .before .before .enum-told6 .given .1)) (c .before .before .finish-flags3 .ensures (ram (now (s .args .main)) (now (s .args .ports))))
-
 same-length-17 : tie.Need-same-length-17
 same-length-17 c = search needs
+
+returns-9 : tie.Need-returns-9
+returns-9 c =
+    let q = c .before .before .before .before .before .before .before .before .before .before .before .before .before .before .before .before .before .before .before .before .before in
+    let s = start q in
+    let a = s .args in
+    let main = now (a .main) in
+    let ports = now (a .ports) in (
+      kept-before (c .before .before .before .before .before .before .finish-word .result) (now (a .sources)) (sources q) (a .p + 1) (kept-same (c .before .before .before .before .before .before .finish-word .result) (sources q)),
+      writes-once (sources q) (a .p) (a .b) main ports (q .before .before .take-apart .result) (q .before .before .before .class-of .result) (q .register .result) (in-range q) (decodes q) (now (a .trail)) (a .used) (c .before .before .before .before .before .before .before .before .before .before .before .before .before .before .before .before .before .before .before .before .if2 .taken) (c .before .before .before .before .before .before .before .before .before .before .before .before .before .before .before .before .before .before .before .if3 .left) (c .before .before .before .before .before .before .before .before .before .before .before .before .before .before .before .before .before .before .if4 .left) (omega (arith, c .before .before .before .before .before .before .before .before .before .before .before .before .before .before .before .before .address .ensures, c .before .before .before .before .before .before .before .before .before .before .before .before .before .before .before .if5 .left)) (rw (c .before .before .before .before .before .before .before .before .before .before .before .before .before .before .before .before .address .ensures) at (c .before .before .before .before .before .before .before .before .before .before .before .before .before .before .place-of .ensures)) (c .before .before .before .before .before .before .before .before .before .before .before .is-fitted .ensures) (not-false _ (c .before .before .before .before .before .before .before .before .before .before .if6 .left)) (c .before .before .before .before .before .before .finish-word .ensures (sources q))
+          ∙ ap (λ (m : Machine). once m (ram main ports) (now (a .trail)) (a .used)) (fourth (now (a .sources)) (a .p + 1) (a .p) (a .b) false),
+    )
+
+deliver-requires : tie.Need-deliver-requires
+deliver-requires c κs =
+    let q = c .before .before .before .before .before in
+    let s = start q in
+    let a = s .args in
+    let main = now (a .main) in
+    let ports = now (a .ports) in
+    ((s .pre .1 .0 .0, sized q), (in-range q, (decodes q, c .before .before .before .before .if2 .left)))
 
 same-length-18 : tie.Need-same-length-18
 same-length-18 c = search needs
@@ -247,23 +312,18 @@ same-length-18 c = search needs
 same-length-19 : tie.Need-same-length-19
 same-length-19 c = search needs
 
-returns-10 : tie.Need-returns-10
-returns-10 c =
-    let q = c .before .before .before .before .before .before .before .before .before .before .before .before .before .before in
-    let s = q .before .before .before .before .before .before .before .before .before in
-    computes-once (s .args .m) (now (s .args .main)) (now (s .args .ports)) (q .before .before .w .given .0 .0) (q .decode .result) (in-range q) (s .pre .1 .1) (sym (q .before .before .before .before .fetch .ensures) ∙ q .before .before .w .given .1) (q .decode .ensures) (now (s .args .trail)) (s .args .used) (c .before .before .before .before .before .before .before .before .before .before .before .enum-told7 .given .1) (c .before .before .before .before .before .before .before .before .operand .ensures) (c .before .before .before .before .before .before .r2 .given .1) (c .before .before .before .before .alu-register .ensures) (c .before .before .deliver .ensures (ram (now (s .args .main)) (now (s .args .ports))))
-
 same-length-20 : tie.Need-same-length-20
 same-length-20 c = search needs
 
-same-length-21 : tie.Need-same-length-21
-same-length-21 c = search needs
-
-returns-11 : tie.Need-returns-11
-returns-11 c =
-    let q = c .before .before .before .before .before .before .before .before .before .before .before .before .before in
-    let s = q .before .before .before .before .before .before .before .before .before in
-    jumps-once (s .args .m) (now (s .args .main)) (now (s .args .ports)) (q .before .before .w .given .0 .0) (q .decode .result) (in-range q) (s .pre .1 .1) (sym (q .before .before .before .before .fetch .ensures) ∙ q .before .before .w .given .1) (q .decode .ensures) (now (s .args .trail)) (s .args .used) (c .before .before .before .before .before .before .before .before .before .before .enum-told9 .given .1) (c .before .before .before .before .before .before .before .before .constant-or-read2 .ensures) (c .before .before .before .before .before .before .r3 .given .1) (c .before .before .before .before .alu-jump .ensures) (c .before .before .jump .ensures (ram (now (s .args .main)) (now (s .args .ports))))
+returns-10 : tie.Need-returns-10
+returns-10 c =
+    let q = c .before .before .before .before .before .before .before .before in
+    let s = start q in
+    let a = s .args in
+    let main = now (a .main) in
+    let ports = now (a .ports) in
+    let o = c .before .before .deliver in
+    (kept-before (o .result) (now (a .sources)) (o .last .1 .1 .1 .0) (a .p + 1) (o .ensures .0), o .ensures .1 ∙ ap (λ (m : Machine). once m (ram main ports) (now (a .trail)) (a .used)) (fourth (now (a .sources)) (a .p + 1) (a .p) (a .b) false))
 
 pub step-once-spec : {M : Type 1} → statement M
 step-once-spec =
@@ -274,60 +334,51 @@ step-once-spec =
     enum-told
     same-length
     returns
-    decode-requires
-    enum-told-2
     finish-flags-requires
-    enum-told-3
-    constant-or-read-requires
-    enum-known-r
-    enum-told-4
     same-length-2
+    same-length-3
     returns-2
+    add-next
+    element-write-sources
+    class-of-requires
+    take-apart-requires
+    register-requires
+    constant-or-read-requires
+    enum-known-o
     compare-requires
     finish-flags-requires-2
-    enum-told-5
+    same-length-4
+    same-length-5
+    returns-3
+    enum-told-2
+    finish-flags-requires-3
+    same-length-6
+    same-length-7
+    returns-4
+    enum-told-3
+    same-length-8
+    returns-5
+    finish-flags-requires-4
+    same-length-9
+    same-length-10
+    returns-6
+    address-requires
+    finish-flags-requires-5
+    same-length-11
+    same-length-12
+    returns-7
     place-of-requires
     is-fitted-requires
-    same-length-3
-    same-length-4
-    returns-3
-    finish-word-requires
-    enum-told-6
-    finish-flags-requires-3
-    enum-told-7
-    operand-requires
-    enum-known-r-2
-    enum-told-8
-    same-length-5
-    same-length-6
-    returns-4
-    alu-register-requires
-    deliver-requires
-    enum-told-9
-    constant-or-read-requires-2
-    enum-known-r-3
-    enum-told-10
-    same-length-7
-    returns-5
-    alu-jump-requires
-    jump-requires
-    same-length-8
-    same-length-9
-    returns-6
-    same-length-10
-    same-length-11
-    returns-7
-    same-length-12
     same-length-13
     same-length-14
     returns-8
+    finish-word-requires
     same-length-15
     same-length-16
-    returns-9
     same-length-17
+    returns-9
+    deliver-requires
     same-length-18
     same-length-19
-    returns-10
     same-length-20
-    same-length-21
-    returns-11)
+    returns-10)
