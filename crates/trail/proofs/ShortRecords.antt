@@ -1,24 +1,52 @@
--- The records of steps, which change at most one register or one word: their bytes, and those of the short ones one by one.
+-- The records of steps, which change at most one register or one word: their bytes, and those of the short ones by the groups of their numbers.
 -- Assumes nothing.
-use Prim.Native.Nat.{ℕ, _+_, _*_, _/_, _%_, _<_, _≤_}
+use Prim.Native.Nat.{ℕ, _+_, _*_, _/_, _%_, _^_, _<_, _≤_}
 use mathlib.Core.Path.{_≡_}
 use mathlib.Core.Bool.{Bool, true, false}
 use mathlib.Core.List.{List, [], _∷_, _++_, append-nil}
 use native.Mathlib.Omega.{arith}
 use lib.Dec.{eqb}
-use lib.ListN.{take}
 use Rattle.report.specs.AnnexA.{BV}
 use Rattle.machine.specs.declared.Place.{Place}
+use Rattle.trail.specs.declared.Added.{Added}
 use Rattle.trail.specs.declared.OldValues.{OldValues}
 use Rattle.trail.specs.declared.Word.the-variants.{Kept, Changed}
 use Rattle.trail.specs.Numbers.{groups}
-use Rattle.trail.specs.Records.{record-bytes, marks-by, place-number}
-use Rattle.trail.specs.OneChange.{closed, one-value, five, registers-kept, register-changed, Register, is-a, is-x, is-y}
+use Rattle.trail.specs.Records.{added, record-bytes, marks-by, place-number}
+use Rattle.trail.specs.OneChange.{closed, one-value, registers-kept, register-changed, Register, is-a, is-x, is-y}
 use Rattle.trail.proofs.NumbersReadBack.{groups-one, groups-more}
 use Rattle.trail.proofs.Marks.{bits}
 
-groups-two : (n : ℕ) → 128 ≤ n → n < 16384 → groups n ≡ (128 + n % 128) ∷ n / 128 ∷ []
-groups-two n h l = rw (groups-more n h, groups-one (n / 128) (omega arith))
+-- ---- the numbers of two groups to five, by all their groups but the last
+
+groups-then : {n g : ℕ} {s : List ℕ} → 128 ≤ n → g ≡ 128 + n % 128 → groups (n / 128) ≡ s → groups n ≡ g ∷ s
+groups-then {n} h e f = rw (groups-more n h, e, f)
+
+pub groups-two : {n g₀ : ℕ} → 128 ≤ n → n < 16384 → g₀ ≡ 128 + n % 128 → groups n ≡ g₀ ∷ n / 128 ∷ []
+groups-two {n} h l e₀ = groups-then h e₀ (groups-one (n / 128) (omega arith))
+
+pub groups-three : {n g₀ g₁ : ℕ} → 16384 ≤ n → n < 2097152 → g₀ ≡ 128 + n % 128 → g₁ ≡ 128 + n / 128 % 128
+    → groups n ≡ g₀ ∷ g₁ ∷ n / 128 / 128 ∷ []
+groups-three h l e₀ e₁ = groups-then (omega arith) e₀ (groups-two (omega arith) (omega arith) e₁)
+
+pub groups-four : {n g₀ g₁ g₂ : ℕ} → 2097152 ≤ n → n < 268435456 → g₀ ≡ 128 + n % 128 → g₁ ≡ 128 + n / 128 % 128
+    → g₂ ≡ 128 + n / 128 / 128 % 128
+    → groups n ≡ g₀ ∷ g₁ ∷ g₂ ∷ n / 128 / 128 / 128 ∷ []
+groups-four h l e₀ e₁ e₂ = groups-then (omega arith) e₀ (groups-three (omega arith) (omega arith) e₁ e₂)
+
+pub groups-five : {n g₀ g₁ g₂ g₃ : ℕ} → 268435456 ≤ n → n < 2 ^ 32 → g₀ ≡ 128 + n % 128 → g₁ ≡ 128 + n / 128 % 128
+    → g₂ ≡ 128 + n / 128 / 128 % 128
+    → g₃ ≡ 128 + n / 128 / 128 / 128 % 128
+    → groups n ≡ g₀ ∷ g₁ ∷ g₂ ∷ g₃ ∷ n / 128 / 128 / 128 / 128 ∷ []
+groups-five h l e₀ e₁ e₂ e₃ = groups-then (omega arith) e₀ (groups-four (omega arith) (omega arith) e₁ e₂ e₃)
+
+-- ---- one value and no place
+
+-- What was added, by the groups of P and of the value.
+pub adds-groups : (trail : List ℕ) (used m p v : ℕ) {q s : List ℕ} {r : Added × List ℕ} → groups p ≡ q → groups v ≡ s
+    → r ≡ added trail used (closed (m ∷ (q ++ s)))
+    → r ≡ added trail used (closed (m ∷ (groups p ++ groups v)))
+adds-groups trail used m p v e f h = rw (e, f) h
 
 -- ---- no register and no word
 
@@ -34,19 +62,19 @@ kept-bytes p b s =
     let m = bits false false false false b s in
     rw (m .a, m .x, m .y, m .word, groups-one (marks-by false false false false b s) (omega (arith, m .few)), append-nil (groups p))
 
-pub kept-one : (p : ℕ) (b s : Bool) {bytes : List ℕ} {n k : ℕ} → bytes ≡ five k p 2 0 0 → n ≡ 3 → k ≡ marks-by false false false false b s → p < 128 → take n bytes ≡ record-bytes (registers-kept p b s Kept)
-kept-one p b s e l m h = rw (e, l, m, kept-bytes p b s, groups-one p h)
-
-pub kept-two : (p : ℕ) (b s : Bool) {bytes : List ℕ} {n k : ℕ} → bytes ≡ five k (128 + p % 128) (p / 128) 3 0 → n ≡ 4 → k ≡ marks-by false false false false b s → 128 ≤ p → p < 16384 → take n bytes ≡ record-bytes (registers-kept p b s Kept)
-kept-two p b s e l m h t = rw (e, l, m, kept-bytes p b s, groups-two p h t)
+-- What was added, by the groups of P.
+pub adds-kept : (trail : List ℕ) (used : ℕ) {k : ℕ} (p : ℕ) (b s : Bool) {q : List ℕ} {r : Added × List ℕ} → k ≡ marks-by false false false false b s → groups p ≡ q
+    → r ≡ added trail used (closed (k ∷ q))
+    → r ≡ added trail used (record-bytes (registers-kept p b s Kept))
+adds-kept trail used p b s m e h = rw (kept-bytes p b s, ← m, e) h
 
 -- ---- one register
 
 -- The marks, by the weight of the register's.
-pub register-marks : {w : ℕ} → Register w → (b s : Bool) → marks-by (eqb w 1) (eqb w 2) (eqb w 4) false b s ≡ w + (16 * BV b + 32 * BV s)
-register-marks is-a b s = omega arith
-register-marks is-x b s = omega arith
-register-marks is-y b s = omega arith
+register-marks : {w k l : ℕ} → Register w → (b s : Bool) → k ≡ 16 * BV b → l ≡ 32 * BV s → w + (k + l) ≡ marks-by (eqb w 1) (eqb w 2) (eqb w 4) false b s
+register-marks is-a b s e f = omega arith
+register-marks is-x b s e f = omega arith
+register-marks is-y b s e f = omega arith
 
 pub register-few : {w : ℕ} → Register w → w ≤ 4
 register-few is-a = omega arith
@@ -65,18 +93,16 @@ changed-bytes is-y p b s old =
     let m = bits false false true false b s in
     rw (m .a, m .x, m .y, m .word, groups-one (marks-by false false true false b s) (omega (arith, m .few)), append-nil (groups old))
 
-pub changed-one : {w : ℕ} → Register w → (p : ℕ) (b s : Bool) (old : ℕ) {bytes : List ℕ} {n k : ℕ} → bytes ≡ five k p old 3 0 → n ≡ 4 → k ≡ w + (16 * BV b + 32 * BV s) → p < 128 → old < 128 → take n bytes ≡ record-bytes (register-changed w p b s old)
-changed-one r p b s old e l m h o = rw (e, l, m, changed-bytes r p b s old, groups-one p h, groups-one old o, register-marks r b s)
-
-pub changed-two : {w : ℕ} → Register w → (p : ℕ) (b s : Bool) (old : ℕ) {bytes : List ℕ} {n k : ℕ} → bytes ≡ five k (128 + p % 128) (p / 128) old 4 → n ≡ 5 → k ≡ w + (16 * BV b + 32 * BV s) → 128 ≤ p → p < 16384 → old < 128 → take n bytes ≡ record-bytes (register-changed w p b s old)
-changed-two r p b s old e l m h t o = rw (e, l, m, changed-bytes r p b s old, groups-two p h t, groups-one old o, register-marks r b s)
+-- The record of one register by the groups of P and of its old value; and as a record with one value.
+pub register-closed : {w k l : ℕ} → Register w → (p : ℕ) (b s : Bool) (old : ℕ) → k ≡ 16 * BV b → l ≡ 32 * BV s
+    → closed ((w + (k + l)) ∷ (groups p ++ groups old)) ≡ record-bytes (register-changed w p b s old)
+register-closed r p b s old e f = rw (register-marks r b s e f, changed-bytes r p b s old)
 
 pub as-register : {w k l : ℕ} → Register w → (p : ℕ) (b s : Bool) (old : ℕ) → k ≡ 16 * BV b → l ≡ 32 * BV s
     → one-value (w + (k + l)) p 0 old ≡ record-bytes (register-changed w p b s old)
 unfolding one-value
-as-register {w} {k} {l} r p b s old e f =
-    let m : w + (k + l) ≡ marks-by (eqb w 1) (eqb w 2) (eqb w 4) false b s = omega (arith, register-marks r b s) in
-    rw (m, changed-bytes r p b s old, bits (eqb w 1) (eqb w 2) (eqb w 4) false b s .word)
+as-register {w} r p b s old e f =
+    rw (register-marks r b s e f, changed-bytes r p b s old, bits (eqb w 1) (eqb w 2) (eqb w 4) false b s .word)
 
 -- ---- one word
 

@@ -47,6 +47,6 @@ closed s = s ++ (length s ∷ [])
 unfoldable pub one-value : ℕ → ℕ → ℕ → ℕ → List ℕ
 one-value marks p place v = closed (marks ∷ (groups p ++ (bytes-if (marked 8 marks) place ++ groups v)))
 
--- Five bytes at the head of a record's array.
-abbrev pub five : ℕ → ℕ → ℕ → ℕ → ℕ → List ℕ
-five b0 b1 b2 b3 b4 = b0 ∷ b1 ∷ b2 ∷ b3 ∷ b4 ∷ replicate 23 0
+-- Nine bytes at the head of a record's array.
+abbrev pub nine : ℕ → ℕ → ℕ → ℕ → ℕ → ℕ → ℕ → ℕ → ℕ → List ℕ
+nine b0 b1 b2 b3 b4 b5 b6 b7 b8 = b0 ∷ b1 ∷ b2 ∷ b3 ∷ b4 ∷ b5 ∷ b6 ∷ b7 ∷ b8 ∷ replicate 19 0

@@ -1,8 +1,15 @@
 // Numbers in groups of seven bits, low group first, top bit set on all but the last, in the fewest groups (document 01, "The trail").
 ghost use mathlib.Core.Path.{_≡_};
-ghost use Prim.Native.Nat.{_+_, _≤_};
+ghost use Prim.Native.Nat.{_+_, _%_, _≤_};
 ghost use lib.ListN.{length};
 ghost use Rattle.trail.specs.Numbers.{groups, bytes-if, Put};
+
+// The lowest group of a number that has more: seven bits, and the top bit set.
+pub(crate) fn group(n: u32) -> u8
+    ensures { λ r. ⌜ r ≡ 128 + n % 128 ⌝ }
+{
+    (128 + n % 128) as u8
+}
 
 // Puts a number into the bytes of a record, and answers the place after it. It takes five bytes at most.
 pub(crate) fn put_number(bytes: &mut [u8; 28], at: usize, n: u32) -> usize
@@ -12,7 +19,7 @@ pub(crate) fn put_number(bytes: &mut [u8; 28], at: usize, n: u32) -> usize
     let mut left = n;
     let mut next = at;
     while left >= 128 {
-        bytes[next] = (128 + left % 128) as u8;
+        bytes[next] = group(left);
         left = left / 128;
         next += 1;
     }

@@ -3,6 +3,7 @@ use crate::Added;
 use crate::FIRST_PORT;
 use crate::OldValues;
 use crate::Word;
+use crate::numbers::group;
 use crate::numbers::put_if;
 use crate::numbers::put_number;
 use machine::Machine;
@@ -10,11 +11,12 @@ use machine::Place;
 ghost use mathlib.Core.Path.{_≡_};
 ghost use mathlib.Core.Bool.{cond};
 ghost use Prim.Native.Nat.{_*_, _^_, _<_, _≤_};
+ghost use mathlib.Core.List.{_∷_, _++_};
 ghost use lib.ListN.{length, take};
 ghost use Rattle.report.specs.AnnexA.{BV};
 ghost use Rattle.machine.specs.Held.{where-of};
-ghost use Rattle.trail.specs.Numbers.{Put};
-ghost use Rattle.trail.specs.OneChange.{five, one-value, registers-kept, register-changed, Register};
+ghost use Rattle.trail.specs.Numbers.{groups, Put};
+ghost use Rattle.trail.specs.OneChange.{closed, nine, one-value, registers-kept, register-changed, Register};
 ghost use Rattle.trail.specs.declared.Word.the-variants.{Kept, Changed};
 ghost use Rattle.trail.specs.Records.{Addressed, Good, added, old-values, place-number, record-bytes, word-changed, word-place, word-value};
 
@@ -150,9 +152,23 @@ pub fn add(trail: &mut [u8], used: usize, o: OldValues) -> Added
 // The records of steps, which change at most one register or one word. What they add is what `add` would; most are short, and those are made
 // without a loop.
 
-// A record of at most five bytes.
-fn short(len: usize, b0: u8, b1: u8, b2: u8, b3: u8, b4: u8) -> Record
-    ensures { λ r. ⌜ (r .bytes ≡ five b0 b1 b2 b3 b4) × (r .len ≡ len) ⌝ }
+// Adds a record of at most nine bytes: the first `len` of them, L last.
+fn add_short(
+    trail: &mut [u8],
+    used: usize,
+    len: usize,
+    b0: u8,
+    b1: u8,
+    b2: u8,
+    b3: u8,
+    b4: u8,
+    b5: u8,
+    b6: u8,
+    b7: u8,
+    b8: u8,
+) -> Added
+    requires { ⌜ (used ≤ length (now trail)) × (len ≤ 9) ⌝ }
+    ensures { λ r. ⌜ (r, now (trail .exit)) ≡ added (now (trail .entry)) used (take len (nine b0 b1 b2 b3 b4 b5 b6 b7 b8)) ⌝ }
 {
     let mut bytes = [0u8; 28];
     bytes[0] = b0;
@@ -160,7 +176,11 @@ fn short(len: usize, b0: u8, b1: u8, b2: u8, b3: u8, b4: u8) -> Record
     bytes[2] = b2;
     bytes[3] = b3;
     bytes[4] = b4;
-    Record { bytes, len }
+    bytes[5] = b5;
+    bytes[6] = b6;
+    bytes[7] = b7;
+    bytes[8] = b8;
+    copy(trail, used, &bytes, len)
 }
 
 // Adds the record of an operation that changed no register and no word.
@@ -170,12 +190,23 @@ pub fn add_flags(trail: &mut [u8], used: usize, p: u32, b: bool, stop: bool) -> 
 {
     let marks = weight(b, 16) + weight(stop, 32);
     if p < 128 {
-        let r = short(3, marks as u8, p as u8, 2, 0, 0);
-        return copy(trail, used, &r.bytes, r.len);
+        return add_short(trail, used, 3, marks as u8, p as u8, 2, 0, 0, 0, 0, 0, 0);
     }
     if p < 16384 {
-        let r = short(4, marks as u8, (128 + p % 128) as u8, (p / 128) as u8, 3, 0);
-        return copy(trail, used, &r.bytes, r.len);
+        return add_short(
+            trail,
+            used,
+            4,
+            marks as u8,
+            group(p),
+            (p / 128) as u8,
+            3,
+            0,
+            0,
+            0,
+            0,
+            0,
+        );
     }
     let o = OldValues {
         marks,
@@ -215,6 +246,170 @@ fn add_value(trail: &mut [u8], used: usize, marks: u32, p: u32, place: u32, v: u
     copy(trail, used, &r.bytes, r.len)
 }
 
+// Adds a record of the marks, a P of one byte and a value: n bytes hold what is below the n-th power of 128. The low groups are written out for
+// each length: held in a local, they made a step up to three instructions longer.
+fn add_with_p_of_one_byte(trail: &mut [u8], used: usize, marks: u8, p: u8, v: u32) -> Added
+    requires { ⌜ (used ≤ length (now trail)) × (p < 128) ⌝ }
+    ensures { λ r. ⌜ (r, now (trail .exit)) ≡ added (now (trail .entry)) used (closed (marks ∷ (groups p ++ groups v))) ⌝ }
+{
+    if v < 128 {
+        return add_short(trail, used, 4, marks, p, v as u8, 3, 0, 0, 0, 0, 0);
+    }
+    if v < 16384 {
+        return add_short(
+            trail,
+            used,
+            5,
+            marks,
+            p,
+            group(v),
+            (v / 128) as u8,
+            4,
+            0,
+            0,
+            0,
+            0,
+        );
+    }
+    let second = group(v / 128);
+    if v < 2097152 {
+        return add_short(
+            trail,
+            used,
+            6,
+            marks,
+            p,
+            group(v),
+            second,
+            (v / 128 / 128) as u8,
+            5,
+            0,
+            0,
+            0,
+        );
+    }
+    let third = group(v / 128 / 128);
+    if v < 268435456 {
+        return add_short(
+            trail,
+            used,
+            7,
+            marks,
+            p,
+            group(v),
+            second,
+            third,
+            (v / 128 / 128 / 128) as u8,
+            6,
+            0,
+            0,
+        );
+    }
+    let fourth = group(v / 128 / 128 / 128);
+    add_short(
+        trail,
+        used,
+        8,
+        marks,
+        p,
+        group(v),
+        second,
+        third,
+        fourth,
+        (v / 128 / 128 / 128 / 128) as u8,
+        7,
+        0,
+    )
+}
+
+// The same with a P of two bytes.
+fn add_with_p_of_two_bytes(trail: &mut [u8], used: usize, marks: u8, p: u32, v: u32) -> Added
+    requires { ⌜ (used ≤ length (now trail)) × (128 ≤ p) × (p < 16384) ⌝ }
+    ensures { λ r. ⌜ (r, now (trail .exit)) ≡ added (now (trail .entry)) used (closed (marks ∷ (groups p ++ groups v))) ⌝ }
+{
+    if v < 128 {
+        return add_short(
+            trail,
+            used,
+            5,
+            marks,
+            group(p),
+            (p / 128) as u8,
+            v as u8,
+            4,
+            0,
+            0,
+            0,
+            0,
+        );
+    }
+    if v < 16384 {
+        return add_short(
+            trail,
+            used,
+            6,
+            marks,
+            group(p),
+            (p / 128) as u8,
+            group(v),
+            (v / 128) as u8,
+            5,
+            0,
+            0,
+            0,
+        );
+    }
+    let second = group(v / 128);
+    if v < 2097152 {
+        return add_short(
+            trail,
+            used,
+            7,
+            marks,
+            group(p),
+            (p / 128) as u8,
+            group(v),
+            second,
+            (v / 128 / 128) as u8,
+            6,
+            0,
+            0,
+        );
+    }
+    let third = group(v / 128 / 128);
+    if v < 268435456 {
+        return add_short(
+            trail,
+            used,
+            8,
+            marks,
+            group(p),
+            (p / 128) as u8,
+            group(v),
+            second,
+            third,
+            (v / 128 / 128 / 128) as u8,
+            7,
+            0,
+        );
+    }
+    let fourth = group(v / 128 / 128 / 128);
+    add_short(
+        trail,
+        used,
+        9,
+        marks,
+        group(p),
+        (p / 128) as u8,
+        group(v),
+        second,
+        third,
+        fourth,
+        (v / 128 / 128 / 128 / 128) as u8,
+        8,
+    )
+}
+
 // Adds the record of an operation that changed one register, whose mark weighs w, and no word.
 pub fn add_register(
     trail: &mut [u8],
@@ -229,22 +424,11 @@ pub fn add_register(
     ensures { λ r. ⌜ (r, now (trail .exit)) ≡ added (now (trail .entry)) used (record-bytes (register-changed w p b stop old)) ⌝ }
 {
     let marks = w + (weight(b, 16) + weight(stop, 32));
-    if old < 128 {
-        if p < 128 {
-            let r = short(4, marks as u8, p as u8, old as u8, 3, 0);
-            return copy(trail, used, &r.bytes, r.len);
-        }
-        if p < 16384 {
-            let r = short(
-                5,
-                marks as u8,
-                (128 + p % 128) as u8,
-                (p / 128) as u8,
-                old as u8,
-                4,
-            );
-            return copy(trail, used, &r.bytes, r.len);
-        }
+    if p < 128 {
+        return add_with_p_of_one_byte(trail, used, marks as u8, p as u8, old);
+    }
+    if p < 16384 {
+        return add_with_p_of_two_bytes(trail, used, marks as u8, p, old);
     }
     add_value(trail, used, marks, p, 0, old)
 }

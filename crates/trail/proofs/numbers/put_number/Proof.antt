@@ -1,6 +1,7 @@
 -- `put_number` meets its contract: at the loop's head, what is put and the groups of `left` make up the whole. Each turn, `left` falls.
 -- Assumes nothing.
 use native.Mathlib.Omega.{arith}
+use borrow.Author.Needs.{needs}
 use Rattle.trail.proofs.Putting.{Putting, starts, room-left, goes-on, ends}
 use Rattle.trail.proofs.numbers.put_number.Statement.{statement}
 use Rattle.trail.proofs.numbers.put_number.Tie as tie
@@ -14,26 +15,23 @@ abbrev μ-loop : tie.MeasureT-loop
 loop-holds : tie.Need-loop-holds Inv-loop μ-loop
 loop-holds c = starts (c .args .bytes .now) (c .args .at) (c .args .n) (omega arith) (omega arith)
 
-add-bytes : tie.Need-add-bytes Inv-loop μ-loop
-add-bytes c = omega arith
-
-cast-bytes : tie.Need-cast-bytes Inv-loop μ-loop
-cast-bytes c = omega arith
+group-requires : tie.Need-group-requires Inv-loop μ-loop
+group-requires c κs = search needs
 
 element-write-bytes : tie.Need-element-write-bytes Inv-loop μ-loop
-element-write-bytes c = omega (arith, room-left (c .before .loop .inv))
+element-write-bytes c = omega (arith, room-left (c .before .before .loop .inv))
 
 add-next : tie.Need-add-next Inv-loop μ-loop
-add-next c = omega (arith, room-left (c .before .loop .inv))
+add-next c = omega (arith, room-left (c .before .before .loop .inv))
 
 loop-less : tie.Need-loop-less Inv-loop μ-loop
 loop-less c = omega arith
 
 loop-again : tie.Need-loop-again Inv-loop μ-loop
-loop-again c = goes-on (c .before .loop .inv) (omega arith)
+loop-again c = rw (c .group .ensures) (goes-on (c .before .before .loop .inv) (omega arith))
 
-cast-bytes-2 : tie.Need-cast-bytes-2 Inv-loop μ-loop
-cast-bytes-2 c = omega arith
+cast-bytes : tie.Need-cast-bytes Inv-loop μ-loop
+cast-bytes c = omega arith
 
 element-write-bytes-2 : tie.Need-element-write-bytes-2 Inv-loop μ-loop
 element-write-bytes-2 c = omega (arith, room-left (c .before .loop .inv))
@@ -51,13 +49,12 @@ put-number-spec =
     Inv-loop
     μ-loop
     loop-holds
-    add-bytes
-    cast-bytes
+    group-requires
     element-write-bytes
     add-next
     loop-less
     loop-again
-    cast-bytes-2
+    cast-bytes
     element-write-bytes-2
     add-result
     returns)

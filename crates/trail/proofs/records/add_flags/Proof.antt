@@ -8,8 +8,9 @@ use borrow.Author.Needs.{needs}
 use Rattle.trail.specs.declared.Word.the-variants.{Kept}
 use Rattle.trail.specs.declared.OldValues.{OldValues}
 use Rattle.trail.specs.Records.{added, record-bytes, Good}
+use Rattle.trail.proofs.NumbersReadBack.{groups-one}
 use Rattle.trail.proofs.Marks.{one-change-good}
-use Rattle.trail.proofs.ShortRecords.{as-kept, kept-one, kept-two}
+use Rattle.trail.proofs.ShortRecords.{groups-two, as-kept, adds-kept}
 use Rattle.trail.proofs.records.add_flags.Statement.{statement}
 use Rattle.trail.proofs.records.add_flags.Tie as tie
 
@@ -22,53 +23,48 @@ weight-requires-2 c κs = search needs
 add-marks : tie.Need-add-marks
 add-marks c = search needs
 
-cast-short : tie.Need-cast-short
-cast-short c = search needs
+cast-add-short : tie.Need-cast-add-short
+cast-add-short c = search needs
 
-cast-short-2 : tie.Need-cast-short-2
-cast-short-2 c = search needs
+cast-add-short-2 : tie.Need-cast-add-short-2
+cast-add-short-2 c = search needs
 
-short-requires : tie.Need-short-requires
-short-requires c κs = search needs
-
-copy-requires : tie.Need-copy-requires
-copy-requires c κs = search needs
+add-short-requires : tie.Need-add-short-requires
+add-short-requires c κs = search needs
 
 same-length : tie.Need-same-length
 same-length c = search needs
 
 returns : tie.Need-returns
 returns c =
-    let a = c .before .before .before .before .before .before .before .before .before .before .before .args in
-    let e = c .before .before .before .before .before .before .short .ensures in
-    c .before .before .copy .ensures ∙ ap (added _ _) (kept-one (a .p) (a .b) (a .stop) (e .0) (e .1) (omega (arith, c .before .before .before .before .before .before .before .before .before .weight .ensures .0, c .before .before .before .before .before .before .before .before .weight2 .ensures .0)) (omega arith))
+    let a = c .before .before .before .before .before .before .before .before .args in
+    adds-kept (a .trail .now) (a .used) (a .p) (a .b) (a .stop)
+    (omega (arith, c .before .before .before .before .before .before .weight .ensures .0, c .before .before .before .before .before .weight2 .ensures .0))
+    (groups-one (a .p) (c .before .before .before .before .if1 .taken))
+    (c .before .before .add-short .ensures)
 
-cast-short-3 : tie.Need-cast-short-3
-cast-short-3 c = search needs
+cast-add-short-3 : tie.Need-cast-add-short-3
+cast-add-short-3 c = search needs
 
-add-short : tie.Need-add-short
-add-short c = search needs
+group-requires : tie.Need-group-requires
+group-requires c κs = search needs
 
-cast-short-4 : tie.Need-cast-short-4
-cast-short-4 c = search needs
+cast-add-short-4 : tie.Need-cast-add-short-4
+cast-add-short-4 c = search needs
 
-cast-short-5 : tie.Need-cast-short-5
-cast-short-5 c = search needs
-
-short-requires-2 : tie.Need-short-requires-2
-short-requires-2 c κs = search needs
-
-copy-requires-2 : tie.Need-copy-requires-2
-copy-requires-2 c κs = search needs
+add-short-requires-2 : tie.Need-add-short-requires-2
+add-short-requires-2 c κs = search needs
 
 same-length-2 : tie.Need-same-length-2
 same-length-2 c = search needs
 
 returns-2 : tie.Need-returns-2
 returns-2 c =
-    let a = c .before .before .before .before .before .before .before .before .before .before .before .before .args in
-    let e = c .before .before .before .before .before .before .short2 .ensures in
-    c .before .before .copy2 .ensures ∙ ap (added _ _) (kept-two (a .p) (a .b) (a .stop) (e .0) (e .1) (omega (arith, c .before .before .before .before .before .before .before .before .before .before .weight .ensures .0, c .before .before .before .before .before .before .before .before .before .weight2 .ensures .0)) (omega arith) (omega arith))
+    let a = c .before .before .before .before .before .before .before .before .before .before .args in
+    adds-kept (a .trail .now) (a .used) (a .p) (a .b) (a .stop)
+    (omega (arith, c .before .before .before .before .before .before .before .before .weight .ensures .0, c .before .before .before .before .before .before .before .weight2 .ensures .0))
+    (groups-two (c .before .before .before .before .before .before .if1 .left) (c .before .before .before .before .before .if2 .taken) (c .before .before .before .group .ensures))
+    (c .before .before .add-short2 .ensures)
 
 add-requires : tie.Need-add-requires
 add-requires c κs =
@@ -91,18 +87,15 @@ add-flags-spec =
     weight-requires
     weight-requires-2
     add-marks
-    cast-short
-    cast-short-2
-    short-requires
-    copy-requires
+    cast-add-short
+    cast-add-short-2
+    add-short-requires
     same-length
     returns
-    cast-short-3
-    add-short
-    cast-short-4
-    cast-short-5
-    short-requires-2
-    copy-requires-2
+    cast-add-short-3
+    group-requires
+    cast-add-short-4
+    add-short-requires-2
     same-length-2
     returns-2
     add-requires
