@@ -180,7 +180,8 @@ fn add_short(
     bytes[6] = b6;
     bytes[7] = b7;
     bytes[8] = b8;
-    copy(trail, used, &bytes, len)
+    let r = Record { bytes, len };
+    copy(trail, used, &r.bytes, r.len)
 }
 
 // Adds the record of an operation that changed no register and no word.
