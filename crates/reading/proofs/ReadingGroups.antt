@@ -63,6 +63,9 @@ scaled-large bound scale low (got zero rest) h = refl
 scaled-large bound scale low (got (suc m) rest) h =
     rw (ne-eqb (suc m) 0 (omega arith), le-ltb (low + scale * suc m) bound (omega (arith, mul-suc scale m)))
 
+pub over-large : (bound low : ℕ) (r : Read) → bound ≤ 128 → below bound (over low r) ≡ broken
+over-large bound low r h = rw (scaled-first low r) (scaled-large bound 128 low r h)
+
 -- A last group at a place before the end.
 read-last : (s : List ℕ) (end : ℕ) → end ≤ length s → (k next : ℕ) → next < end → getD s next 0 < 128 → read-in k (slice next end s) ≡ got (getD s next 0) (slice (next + 1) end s)
 read-last s end fits k next h l =
@@ -84,7 +87,7 @@ module _ (s : List ℕ) (at end bound : ℕ) (fits : end ≤ length s) where
   -- Two groups or more come to 128 or more.
   pub small-bound : at < end → 128 ≤ getD s at 0 → getD s at 0 < 256 → bound ≤ 128 → Broken ≡ number-of end (read-below bound (slice at end s))
   small-bound h l b q =
-      rw (slice-cons at end s 0 h fits, le-ltb (getD s at 0) 128 l, lt-ltb (getD s at 0) 256 b, scaled-first (getD s at 0 - 128) (read-in 3 (slice (suc at) end s)), scaled-large bound 128 (getD s at 0 - 128) (read-in 3 (slice (suc at) end s)) q)
+      rw (slice-cons at end s 0 h fits, le-ltb (getD s at 0) 128 l, lt-ltb (getD s at 0) 256 b, over-large bound (getD s at 0 - 128) (read-in 3 (slice (suc at) end s)) q)
 
   pub more-groups : at < end → 128 ≤ getD s at 0 → getD s at 0 < 256
       → number-of end (below bound (over (getD s at 0 - 128) (read-in 3 (slice (at + 1) end s)))) ≡ number-of end (read-below bound (slice at end s))

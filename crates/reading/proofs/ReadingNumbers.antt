@@ -15,21 +15,21 @@ use Rattle.trail.specs.declared.Newest.the-variants as newest
 use Rattle.reading.specs.declared.from_end.Found.{Found}
 use Rattle.reading.specs.declared.numbers.Number.{Number}
 use Rattle.reading.specs.declared.numbers.Number.the-variants.{Got, Broken}
-use Rattle.trail.specs.Numbers.{Read, got, broken, bytes-if, read-below, read-if}
+use Rattle.trail.specs.Numbers.{Read, got, broken, bytes-if, read-in, read-below, read-if}
 use Rattle.reading.specs.Finding.{number-of}
 use Rattle.reading.specs.Finding.{read-at, found-of}
 use Rattle.trail.specs.Newest.{and-then, at-end, read-from-marks, read-record, leaving}
 use Rattle.trail.proofs.NumbersReadBack.{read-if-only}
-use Rattle.reading.proofs.ReadingGroups.{no-bytes}
+use Rattle.reading.proofs.ReadingGroups.{no-bytes, over-large}
 
 -- ---- one number
 
-is-broken : (end : ℕ) (r : Read) → Broken ≡ number-of end r → r ≡ broken
+pub is-broken : (end : ℕ) (r : Read) → Broken ≡ number-of end r → r ≡ broken
 is-broken end broken e = refl
 is-broken end (got n rest) e = let z : _≡_ {A = ℕ} 0 1 = cc in absurd (omega arith)
 
 -- The bytes after a number are those from the place after it.
-is-got : (t : Bool) (bound : ℕ) (s : List ℕ) (at end n next : ℕ) → at ≤ end → end ≤ length s → Got n next ≡ number-of end (read-if t bound (slice at end s))
+pub is-got : (t : Bool) (bound : ℕ) (s : List ℕ) (at end n next : ℕ) → at ≤ end → end ≤ length s → Got n next ≡ number-of end (read-if t bound (slice at end s))
     → (read-if t bound (slice at end s) ≡ got n (slice next end s)) × (next ≤ end)
 is-got t bound s at end n next h l p = go (read-if t bound (slice at end s)) refl p
   where
@@ -151,35 +151,43 @@ module _ {s : List ℕ} {start end at : ℕ} (g : Upto s start end at) (o : OldV
       go true e = refl
       go false e = rw (k, slice-cons at end s 0 (omega (arith, ltb-false end at e, h)) (omega (arith, g .fits)))
 
--- ---- L, read as a number
+-- ---- a byte, read as a number
 
--- A number below 28 in one byte is that byte.
-one-byte : (b : ℕ) → read-below 28 (b ∷ []) ≡ cond (ltb b 28) (got b []) broken
-one-byte b = go (ltb b 128) (ltb b 256) refl refl
+-- A number below 128 is its first byte: two groups or more come to 128 or more.
+pub first-byte : (bound b : ℕ) (s : List ℕ) → bound ≤ 128 → read-below bound (b ∷ s) ≡ cond (ltb b bound) (got b s) broken
+first-byte bound b s h = go (ltb b 128) (ltb b 256) refl refl
   where
-    go : (t u : Bool) → ltb b 128 ≡ t → ltb b 256 ≡ u → read-below 28 (b ∷ []) ≡ cond (ltb b 28) (got b []) broken
+    go : (t u : Bool) → ltb b 128 ≡ t → ltb b 256 ≡ u → read-below bound (b ∷ s) ≡ cond (ltb b bound) (got b s) broken
     go true u e f = rw e
-    go false true e f = rw (e, f, le-ltb b 28 (omega (arith, ltb-false b 128 e)))
-    go false false e f = rw (e, f, le-ltb b 28 (omega (arith, ltb-false b 128 e)))
+    go false true e f = rw (e, f, over-large bound (b - 128) (read-in 3 s) h, le-ltb b bound (omega (arith, ltb-false b 128 e)))
+    go false false e f = rw (e, f, le-ltb b bound (omega (arith, ltb-false b 128 e)))
 
--- The last byte in use; r is what the code found for it.
-module _ (s : List ℕ) (used : ℕ) (h : 0 < used) (fits : used ≤ length s) {r : Number} (p : r ≡ number-of used (read-below 28 (slice (used - 1) used s))) where
-  last-byte : r ≡ number-of used (cond (ltb (getD s (used - 1) 0) 28) (got (getD s (used - 1) 0) []) broken)
-  last-byte =
-      let none : slice (suc (used - 1)) used s ≡ [] = no-bytes (slice (suc (used - 1)) used s) (length-slice (suc (used - 1)) used s fits ∙ omega arith) in
-      let one : slice (used - 1) used s ≡ getD s (used - 1) 0 ∷ [] = rw (slice-cons (used - 1) used s 0 (omega arith) fits, none) in
-      p ∙ rw (one, one-byte (getD s (used - 1) 0))
+-- The bytes at one place or two, where the bytes end after them.
+pub last-byte : (s : List ℕ) (at end : ℕ) → at + 1 ≡ end → end ≤ length s → slice at end s ≡ getD s at 0 ∷ []
+last-byte s at end one fits =
+    let none : slice (suc at) end s ≡ [] = no-bytes (slice (suc at) end s) (length-slice (suc at) end s fits ∙ omega arith) in
+    rw (slice-cons at end s 0 (omega arith) fits, none)
 
-  pub is-L : {n next : ℕ} → r ≡ Got n next → (getD s (used - 1) 0 ≡ n) × (n < 28)
-  is-L {n} {next} e = go (ltb (getD s (used - 1) 0) 28) refl (sym e ∙ last-byte)
+pub last-two : (s : List ℕ) (at next end : ℕ) → at + 1 ≡ next → next + 1 ≡ end → end ≤ length s → slice at end s ≡ getD s at 0 ∷ (getD s next 0 ∷ [])
+last-two s at next end one two fits =
+    let e : suc at ≡ next = omega arith in
+    rw (slice-cons at end s 0 (omega arith) fits, e, last-byte s next end two fits)
+
+-- r is what the code found for such a byte.
+module _ (s : List ℕ) (at end bound : ℕ) (one : at + 1 ≡ end) (fits : end ≤ length s) (small : bound ≤ 128) {r : Number} (p : r ≡ number-of end (read-below bound (slice at end s))) where
+  alone : r ≡ number-of end (cond (ltb (getD s at 0) bound) (got (getD s at 0) []) broken)
+  alone = p ∙ rw (last-byte s at end one fits, first-byte bound (getD s at 0) [] small)
+
+  pub is-byte : {n next : ℕ} → r ≡ Got n next → (getD s at 0 ≡ n) × (n < bound)
+  is-byte {n} {next} e = go (ltb (getD s at 0) bound) refl (sym e ∙ alone)
     where
-      go : (t : Bool) → ltb (getD s (used - 1) 0) 28 ≡ t → Got n next ≡ number-of used (cond t (got (getD s (used - 1) 0) []) broken) → (getD s (used - 1) 0 ≡ n) × (n < 28)
-      go true g q = let v : getD s (used - 1) 0 ≡ n = cc in (v, omega (arith, ltb-true (getD s (used - 1) 0) 28 g))
+      go : (t : Bool) → ltb (getD s at 0) bound ≡ t → Got n next ≡ number-of end (cond t (got (getD s at 0) []) broken) → (getD s at 0 ≡ n) × (n < bound)
+      go true g q = let v : getD s at 0 ≡ n = cc in (v, omega (arith, ltb-true (getD s at 0) bound g))
       go false g q = let z : _≡_ {A = ℕ} 0 1 = cc in absurd (omega arith)
 
-  pub no-L : r ≡ Broken → 27 < getD s (used - 1) 0
-  no-L e = go (ltb (getD s (used - 1) 0) 28) refl (sym e ∙ last-byte)
+  pub no-byte : r ≡ Broken → bound ≤ getD s at 0
+  no-byte e = go (ltb (getD s at 0) bound) refl (sym e ∙ alone)
     where
-      go : (t : Bool) → ltb (getD s (used - 1) 0) 28 ≡ t → Broken ≡ number-of used (cond t (got (getD s (used - 1) 0) []) broken) → 27 < getD s (used - 1) 0
+      go : (t : Bool) → ltb (getD s at 0) bound ≡ t → Broken ≡ number-of end (cond t (got (getD s at 0) []) broken) → bound ≤ getD s at 0
       go true g q = let z : _≡_ {A = ℕ} 0 1 = cc in absurd (omega arith)
-      go false g q = omega (arith, ltb-false (getD s (used - 1) 0) 28 g)
+      go false g q = ltb-false (getD s at 0) bound g

@@ -1,16 +1,22 @@
 -- What the code says of a number that it read, and of the numbers of a record, read one after another: where one is broken, every place after it
 -- is past the end.
 -- Assumes nothing.
-use Prim.Native.Nat.{ℕ, _+_, _-_}
+use Prim.Native.Nat.{ℕ, _+_, _-_, _%_}
+use mathlib.Core.Path.{_≡_}
 use mathlib.Core.Bool.{Bool, cond}
 use mathlib.Core.List.{List}
 use lib.Dec.{ltb}
 use lib.ListN.{length}
 use lib.Seq.{slice}
 use Rattle.trail.specs.Numbers.{Read, got, broken, read-if}
+use Rattle.trail.specs.declared.OldValues.{OldValues}
+use Rattle.trail.specs.declared.Newest.{Newest}
+use Rattle.trail.specs.declared.Newest.the-variants as newest
 use Rattle.reading.specs.declared.from_end.Found.{Found}
 use Rattle.reading.specs.declared.numbers.Number.{Number}
 use Rattle.reading.specs.declared.numbers.Number.the-variants.{Got, Broken}
+use Rattle.reading.specs.declared.short.ShortRecord.{ShortRecord}
+use Rattle.reading.specs.declared.short.ShortRecord.the-variants as short
 
 -- A number read, with the place after it: the bytes left over end at `end`.
 abbrev pub number-of : ℕ → Read → Number
@@ -25,3 +31,17 @@ read-at at end s marked bound = cond (ltb end at) broken (read-if marked bound (
 abbrev pub found-of : ℕ → Read → Found
 found-of end broken = record { n = 0; next = end + 1 }
 found-of end (got n rest) = record { n = n; next = end - length rest }
+
+-- The newest record holds these old values, and of A, X, Y and the word it marks those of these weights.
+pub record Holds (n : Newest) (o : OldValues) (left weights : ℕ) : Type 0 where
+  pub holds : n ≡ newest.Record o left
+  pub marks : o .marks % 16 ≡ weights
+
+-- What a short record says of the newest one; of a longer one it says nothing.
+abbrev pub Says : ShortRecord → Newest → Type 0
+Says (short.Kept o left) n = Holds n o left 0
+Says (short.A o left) n = Holds n o left 1
+Says (short.X o left) n = Holds n o left 2
+Says (short.Y o left) n = Holds n o left 4
+Says short.Broken n = n ≡ newest.Broken
+Says short.Longer n = Unit {0}

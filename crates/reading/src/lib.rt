@@ -2,5 +2,8 @@
 mod from_end;
 mod numbers;
 mod reader;
+mod short;
 
 pub use from_end::newest;
+pub use short::ShortRecord;
+pub use short::read_short;

@@ -10,6 +10,7 @@ use machine::Machine;
 use machine::MainAddress;
 use machine::Place;
 use machine::PortNumber;
+use reading::ShortRecord;
 use step::finish::Stepped;
 use step::finish::changed_to;
 use step::finish::put_word;
@@ -25,7 +26,7 @@ ghost use mathlib.Core.List.{List};
 ghost use Prim.Native.Nat.{ℕ, _≤_, _<_, _^_};
 ghost use lib.ListN.{length};
 ghost use Rattle.machine.specs.Held.{ram, state, machine-of};
-ghost use Rattle.trail.specs.Records.{restored};
+ghost use Rattle.trail.specs.Records.{restored, marked};
 ghost use Rattle.viper.specs.Noting.{noted, stores-restored, Refits};
 ghost use Rattle.viper.specs.Operations.{reset as reset·op, force as force·op, step as step·op, set-word, outcome};
 ghost use Rattle.viper.specs.Runs.{over-and-over, run-outcome};
@@ -344,6 +345,20 @@ fn word_restored(o: OldValues, main: &mut [u32], ports: &mut [u32])
     }
 }
 
+// The machine of these registers, with P and the flags of a record.
+fn flagged(a: u32, x: u32, y: u32, o: OldValues) -> Machine
+    ensures { λ r. ⌜ r ≡ record { a = a; x = x; y = y; p = o .p; b = marked 16 (o .marks); stop = marked 32 (o .marks) } ⌝ }
+{
+    Machine {
+        a,
+        x,
+        y,
+        p: o.p,
+        b: o.marks / 16 % 2 == 1,
+        stop: o.marks / 32 % 2 == 1,
+    }
+}
+
 // What take back came to. Made in one place of its own, so that the compiler keeps it in registers, whichever way out it leaves by.
 fn answered(machine: Machine, used: usize, answer: Answer) -> Outcome
     ensures { λ r. ⌜ r ≡ record { machine = machine; used = used; answer = answer } ⌝ }
@@ -372,9 +387,31 @@ pub fn take_back(
     if used == 0 {
         return answered(m, used, Answer::Refused(Refusal::NothingInUse));
     }
-    let Newest::Record(o, left) = reading::newest(trail, used, main.len(), ports.len()) else {
-        return answered(m, used, Answer::Refused(Refusal::BrokenRecord));
-    };
-    word_restored(o, main, ports);
-    answered(machine_restored(o, m), left, Answer::Done)
+    // A short record marks no word, and at most one register.
+    let short = reading::read_short(trail, used);
+    match short {
+        ShortRecord::Kept(o, left) => {
+            return answered(flagged(m.a, m.x, m.y, o), left, Answer::Done);
+        }
+        ShortRecord::A(o, left) => {
+            return answered(flagged(o.a, m.x, m.y, o), left, Answer::Done);
+        }
+        ShortRecord::X(o, left) => {
+            return answered(flagged(m.a, o.x, m.y, o), left, Answer::Done);
+        }
+        ShortRecord::Y(o, left) => {
+            return answered(flagged(m.a, m.x, o.y, o), left, Answer::Done);
+        }
+        ShortRecord::Broken => {
+            return answered(m, used, Answer::Refused(Refusal::BrokenRecord));
+        }
+        ShortRecord::Longer => {
+            let Newest::Record(o, left) = reading::newest(trail, used, main.len(), ports.len())
+            else {
+                return answered(m, used, Answer::Refused(Refusal::BrokenRecord));
+            };
+            word_restored(o, main, ports);
+            return answered(machine_restored(o, m), left, Answer::Done);
+        }
+    }
 }

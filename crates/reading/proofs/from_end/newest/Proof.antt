@@ -9,7 +9,7 @@ use denote.Ref.{now}
 use borrow.Author.Tests.{eq-eqb, ne-eqb, not-true, not-false}
 use Rattle.trail.specs.Newest.{newest, newest-fitted}
 use Rattle.trail.proofs.NewestReadsBack.{too-short, too-long, past-the-first, by-L}
-use Rattle.reading.proofs.ReadingNumbers.{is-L, no-L}
+use Rattle.reading.proofs.ReadingNumbers.{is-byte, no-byte}
 use Rattle.reading.proofs.from_end.newest.Statement.{statement}
 use Rattle.reading.proofs.from_end.newest.Tie as tie
 
@@ -18,7 +18,7 @@ L : (c : tie.After-known-told) → let a = c .before .before .before .before .be
     (getD (now (a .trail)) (a .used - 1) 0 ≡ c .before .l .given .0 .0) × (c .before .l .given .0 .0 < 28)
 L c =
     let a = c .before .before .before .before .before .args in
-    is-L (now (a .trail)) (a .used) (omega arith) (omega arith) (c .before .before .before .read-number .ensures) (c .before .l .given .1)
+    is-byte (now (a .trail)) (a .used - 1) (a .used) 28 (omega arith) (omega arith) (omega arith) (c .before .before .before .read-number .ensures) (c .before .l .given .1)
 
 -- After the tests on L, the newest record is what `read_record` found.
 found : (c : tie.After-read-record) → let a = c .before .before .before .before .before .before .before .before .args in newest (2 ^ 21) (now (a .trail)) (a .used) ≡ c .read-record .result
@@ -43,7 +43,7 @@ returns : tie.Need-returns
 unfolding newest-fitted
 returns c =
     let a = c .before .before .before .before .args in
-    let l = no-L (now (a .trail)) (a .used) (omega arith) (omega arith) (c .before .before .read-number .ensures) (c .enum-told .given .1) in
+    let l = no-byte (now (a .trail)) (a .used - 1) (a .used) 28 (omega arith) (omega arith) (omega arith) (c .before .before .read-number .ensures) (c .enum-told .given .1) in
     rw (too-long (2 ^ 21) (now (a .trail)) (a .used) l)
 
 cast-n : tie.Need-cast-n

@@ -1,0 +1,154 @@
+// The newest record where two or three bytes stand before L: most steps add such a one. Its numbers stand at known places, so they are not read
+// one after another, and taking it back is quick. No trail byte is written here.
+use crate::numbers::Number;
+use crate::reader::read_number;
+use trail::OldValues;
+ghost use Prim.Native.Nat.{ℕ, _^_, _<_, _≤_};
+ghost use lib.ListN.{length};
+ghost use Rattle.trail.specs.Newest.{before-L, newest-fitted};
+ghost use Rattle.reading.specs.Finding.{Says};
+
+// The bounds of what is read: L, the marks, a number of one group, and P.
+const LENGTHS: u64 = 4;
+
+const MARKS: u64 = 64;
+
+const GROUP: u64 = 128;
+
+const ADDRESSES: u64 = 1_048_576;
+
+// What a record so short marks beside the flags: nothing, A, X or Y; its old values, and the count of bytes in use once it is gone.
+// Or it is broken, or it is not so short.
+pub enum ShortRecord {
+    Kept(OldValues, usize),
+    A(OldValues, usize),
+    X(OldValues, usize),
+    Y(OldValues, usize),
+    Broken,
+    Longer,
+}
+
+// Marks and P, each one byte: nothing is marked.
+fn two_bytes(trail: &[u8], end: usize) -> ShortRecord
+    requires { ⌜ end < length (now trail) ⌝ }
+    ensures { λ r. ⌜ Says r (before-L (2 ^ 21) (now (trail .entry)) end 2) ⌝ }
+{
+    if end < 2 {
+        return ShortRecord::Broken;
+    }
+    let start = end - 2;
+    let Number::Got(marks, _) = read_number(trail, start, start + 1, MARKS) else {
+        return ShortRecord::Broken;
+    };
+    if marks % 16 != 0 {
+        return ShortRecord::Broken;
+    }
+    let Number::Got(p, _) = read_number(trail, start + 1, end, GROUP) else {
+        return ShortRecord::Broken;
+    };
+    let o = OldValues {
+        marks,
+        p,
+        a: 0,
+        x: 0,
+        y: 0,
+        place: 0,
+        value: 0,
+    };
+    ShortRecord::Kept(o, start)
+}
+
+// Marks and P in two bytes, if nothing is marked; else marks, P and the only value, each one byte.
+fn three_bytes(trail: &[u8], end: usize) -> ShortRecord
+    requires { ⌜ end < length (now trail) ⌝ }
+    ensures { λ r. ⌜ Says r (before-L (2 ^ 21) (now (trail .entry)) end 3) ⌝ }
+{
+    if end < 3 {
+        return ShortRecord::Broken;
+    }
+    let start = end - 3;
+    let Number::Got(marks, _) = read_number(trail, start, start + 1, MARKS) else {
+        return ShortRecord::Broken;
+    };
+    let changed = marks % 16;
+    if changed == 0 {
+        let Number::Got(p, next) = read_number(trail, start + 1, end, ADDRESSES) else {
+            return ShortRecord::Broken;
+        };
+        if next == end {
+            let o = OldValues {
+                marks,
+                p,
+                a: 0,
+                x: 0,
+                y: 0,
+                place: 0,
+                value: 0,
+            };
+            return ShortRecord::Kept(o, start);
+        }
+        return ShortRecord::Broken;
+    }
+    let Number::Got(p, _) = read_number(trail, start + 1, start + 2, GROUP) else {
+        return ShortRecord::Broken;
+    };
+    let Number::Got(value, _) = read_number(trail, start + 2, end, GROUP) else {
+        return ShortRecord::Broken;
+    };
+    if changed == 1 {
+        let o = OldValues {
+            marks,
+            p,
+            a: value,
+            x: 0,
+            y: 0,
+            place: 0,
+            value: 0,
+        };
+        return ShortRecord::A(o, start);
+    }
+    if changed == 2 {
+        let o = OldValues {
+            marks,
+            p,
+            a: 0,
+            x: value,
+            y: 0,
+            place: 0,
+            value: 0,
+        };
+        return ShortRecord::X(o, start);
+    }
+    if changed == 4 {
+        let o = OldValues {
+            marks,
+            p,
+            a: 0,
+            x: 0,
+            y: value,
+            place: 0,
+            value: 0,
+        };
+        return ShortRecord::Y(o, start);
+    }
+    // A word or two registers do not go into one byte.
+    ShortRecord::Broken
+}
+
+// The newest record of a trail of which `used` bytes are in use, if it is so short. It marks no word, so the stores do not matter.
+pub fn read_short(trail: &[u8], used: usize) -> ShortRecord
+    requires { ⌜ (0 < used) × (used ≤ length (now trail)) ⌝ }
+    ensures { λ r. ⌜ ((main ports : ℕ) → Says r (newest-fitted main ports (now (trail .entry)) used)) ⌝ }
+{
+    let end = used - 1;
+    let Number::Got(n, _) = read_number(trail, end, used, LENGTHS) else {
+        return ShortRecord::Longer;
+    };
+    if n == 2 {
+        return two_bytes(trail, end);
+    }
+    if n == 3 {
+        return three_bytes(trail, end);
+    }
+    ShortRecord::Broken
+}
