@@ -105,6 +105,28 @@ module _ (s : List ℕ) (at end bound : ℕ) (fits : end ≤ length s) where
       ∙ ap (λ (x : Read). number-of end (below bound (over m x))) (sym (read-last s end fits 3 (at + 1) h c))
       ∙ more-groups (omega arith) l b
 
+  pub three-groups : at + 2 < end → 128 ≤ getD s at 0 → getD s at 0 < 256 → 128 ≤ getD s (at + 1) 0 → getD s (at + 1) 0 < 256 → 0 < getD s (at + 2) 0 → getD s (at + 2) 0 < 128
+      → getD s at 0 - 128 + 128 * (getD s (at + 1) 0 - 128) + 16384 * getD s (at + 2) 0 < bound
+      → Got (getD s at 0 - 128 + 128 * (getD s (at + 1) 0 - 128) + 16384 * getD s (at + 2) 0) (at + 3) ≡ number-of end (read-below bound (slice at end s))
+  three-groups h l b l₂ b₂ z c q =
+      let m = getD s at 0 - 128 in
+      let n = getD s (at + 1) 0 - 128 in
+      let o = getD s (at + 2) 0 in
+      let r = slice (at + 2 + 1) end s in
+      let place : end - length r ≡ at + 3 = place-left s (at + 2 + 1) end (omega arith) fits ∙ omega arith in
+      let value : m + 128 * (n + 128 * o) ≡ m + 128 * n + 16384 * o = omega arith in
+      let next : suc (at + 1) ≡ at + 2 = omega arith in
+      let bytes : slice (at + 1) end s ≡ getD s (at + 1) 0 ∷ slice (at + 2) end s = rw (slice-cons (at + 1) end s 0 (omega arith) fits, next) in
+      let later : read-in 3 (slice (at + 1) end s) ≡ over n (got o r) =
+      ap (read-in 3) bytes
+      ∙ read-over 3 (getD s (at + 1) 0) (slice (at + 2) end s) l₂ b₂ (omega arith)
+      ∙ ap (over n) (read-last s end fits 2 (at + 2) h c)
+      in
+      let three : number-of end (below bound (over m (over n (got o r)))) ≡ Got (m + 128 * n + 16384 * o) (at + 3) =
+      rw (ne-eqb o 0 (omega arith), ne-eqb (n + 128 * o) 0 (omega arith), value, lt-ltb (m + 128 * n + 16384 * o) bound q, place)
+      in
+      sym three ∙ ap (λ (x : Read). number-of end (below bound (over m x))) (sym later) ∙ more-groups (omega arith) l b
+
 -- ---- a sixth group makes no difference to a number below 2^35
 
 below-over : (c low : ℕ) (r : Read) → low < 128 → below (128 * c) (over low r) ≡ over low (below c r)

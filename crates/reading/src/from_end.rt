@@ -8,10 +8,8 @@ ghost use mathlib.Core.Path.{_≡_};
 ghost use Prim.Native.Nat.{_+_, _^_, _<_, _≤_};
 ghost use lib.ListN.{length};
 ghost use lib.Seq.{slice};
-ghost use Rattle.trail.specs.Records.{where-of-number};
 ghost use Rattle.reading.specs.Finding.{found-of, read-at};
 ghost use Rattle.trail.specs.Newest.{leaving, read-record, newest-fitted};
-ghost use Rattle.trail.specs.Newest as definitions;
 
 // The bounds of what is read: L, the marks, P, the number of a place, and a register or a word.
 const LENGTHS: u64 = 28;
@@ -76,16 +74,6 @@ fn read_record(bytes: &[u8], start: usize, end: usize) -> Newest
     Newest::Broken
 }
 
-// Whether the place of this number is fitted, in stores of these lengths.
-fn fits(place: u32, main: usize, ports: usize) -> bool
-    ensures { λ r. ⌜ r ≡ definitions.fits main ports (where-of-number place) ⌝ }
-{
-    if place < FIRST_PORT {
-        return (place as usize) < main;
-    }
-    ((place - FIRST_PORT) as usize) < ports
-}
-
 // The newest record of a trail of which `used` bytes are in use, beside stores of these lengths.
 pub fn newest(trail: &[u8], used: usize, main: usize, ports: usize) -> Newest
     requires { ⌜ (0 < used) × (used ≤ length (now trail)) ⌝ }
@@ -107,9 +95,17 @@ pub fn newest(trail: &[u8], used: usize, main: usize, ports: usize) -> Newest
         return Newest::Broken;
     };
     if o.marks / 8 % 2 == 1 {
-        if !fits(o.place, main, ports) {
+        // The word's place is fitted, in the store that its number names.
+        if o.place < FIRST_PORT {
+            if (o.place as usize) < main {
+                return Newest::Record(o, left);
+            }
             return Newest::Broken;
         }
+        if ((o.place - FIRST_PORT) as usize) < ports {
+            return Newest::Record(o, left);
+        }
+        return Newest::Broken;
     }
     Newest::Record(o, left)
 }

@@ -32,11 +32,18 @@ pub(crate) fn number_at(bytes: &[u8], at: usize, end: usize, bound: u64) -> Numb
         return Number::Broken;
     }
     if at + 1 < end {
-        // Two groups, the most common number after one: no loop.
+        // Two groups or three, the most common numbers after one: no loop.
         let c = bytes[at + 1] as u64;
         let n = b - 128 + 128 * c;
         if (0 < c) & (c < 128) & (n < bound) {
             return Number::Got(n as u32, at + 2);
+        }
+        if (at + 2 < end) & (c >= 128) {
+            let d = bytes[at + 2] as u64;
+            let n = b - 128 + 128 * (c - 128) + 16_384 * d;
+            if (0 < d) & (d < 128) & (n < bound) {
+                return Number::Got(n as u32, at + 3);
+            }
         }
     }
     read_more(bytes, at + 1, end, b - 128, bound)

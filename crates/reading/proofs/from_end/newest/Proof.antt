@@ -6,7 +6,7 @@ use native.Mathlib.Omega.{arith}
 use lib.ListN.{getD}
 use borrow.Author.Needs.{needs}
 use denote.Ref.{now}
-use borrow.Author.Tests.{eq-eqb, ne-eqb, not-true, not-false}
+use borrow.Author.Tests.{eq-eqb, ne-eqb, lt-ltb, le-ltb}
 use Rattle.trail.specs.Newest.{newest, newest-fitted}
 use Rattle.trail.proofs.NewestReadsBack.{too-short, too-long, past-the-first, by-L}
 use Rattle.reading.proofs.ReadingNumbers.{is-byte, no-byte}
@@ -75,22 +75,35 @@ returns-4 : tie.Need-returns-4
 unfolding newest-fitted
 returns-4 c = rw (found (c .before .before), c .enum-told2 .given .1)
 
-fits-requires : tie.Need-fits-requires
-fits-requires c κs = search needs
+cast-if5 : tie.Need-cast-if5
+cast-if5 c = search needs
 
 returns-5 : tie.Need-returns-5
 unfolding newest-fitted
 returns-5 c =
-    rw (found (c .before .before .before .before .before .before .before), c .before .before .before .before .before .o .given .1, eq-eqb _ 1 (c .before .before .if3 .taken), ← c .before .fits2 .ensures, not-true (c .before .fits2 .result) (c .if4 .taken))
+    rw (found (c .before .before .before .before .before .before .before .before .before), c .before .before .before .before .before .before .before .o .given .1, eq-eqb _ 1 (c .before .before .before .before .if3 .taken), lt-ltb _ _ (c .before .before .if4 .taken), lt-ltb _ _ (c .if5 .taken))
 
 returns-6 : tie.Need-returns-6
 unfolding newest-fitted
 returns-6 c =
-    rw (found (c .before .before .before .before .before .before .before), c .before .before .before .before .before .o .given .1, eq-eqb _ 1 (c .before .before .if3 .taken), ← c .before .fits2 .ensures, not-false (c .before .fits2 .result) (c .if4 .left))
+    rw (found (c .before .before .before .before .before .before .before .before .before), c .before .before .before .before .before .before .before .o .given .1, eq-eqb _ 1 (c .before .before .before .before .if3 .taken), lt-ltb _ _ (c .before .before .if4 .taken), le-ltb _ _ (c .if5 .left))
+
+cast-if6 : tie.Need-cast-if6
+cast-if6 c = search needs
 
 returns-7 : tie.Need-returns-7
 unfolding newest-fitted
-returns-7 c = rw (found (c .before .before .before .before .before), c .before .before .before .o .given .1, ne-eqb _ 1 (c .if3 .left))
+returns-7 c =
+    rw (found (c .before .before .before .before .before .before .before .before .before), c .before .before .before .before .before .before .before .o .given .1, eq-eqb _ 1 (c .before .before .before .before .if3 .taken), le-ltb _ _ (c .before .before .if4 .left), lt-ltb _ _ (c .if6 .taken))
+
+returns-8 : tie.Need-returns-8
+unfolding newest-fitted
+returns-8 c =
+    rw (found (c .before .before .before .before .before .before .before .before .before), c .before .before .before .before .before .before .before .o .given .1, eq-eqb _ 1 (c .before .before .before .before .if3 .taken), le-ltb _ _ (c .before .before .if4 .left), le-ltb _ _ (c .if6 .left))
+
+returns-9 : tie.Need-returns-9
+unfolding newest-fitted
+returns-9 c = rw (found (c .before .before .before .before .before), c .before .before .before .o .given .1, ne-eqb _ 1 (c .if3 .left))
 
 pub newest-spec : {M : Type 1} → statement M
 newest-spec =
@@ -108,7 +121,10 @@ newest-spec =
     enum-known-o
     enum-told-2
     returns-4
-    fits-requires
+    cast-if5
     returns-5
     returns-6
-    returns-7)
+    cast-if6
+    returns-7
+    returns-8
+    returns-9)

@@ -1,15 +1,15 @@
--- `number_at` meets its contract: one law for each way out, by the first two bytes.
+-- `number_at` meets its contract: one law for each way out, by the first three bytes.
 -- Assumes nothing.
-use Prim.Native.Nat.{ℕ, _+_, _-_, _*_, _<_}
+use Prim.Native.Nat.{ℕ, _+_, _-_, _*_, _<_, _≤_}
 use mathlib.Core.Path.{_≡_, refl}
 use native.Mathlib.Omega.{arith}
 use lib.ListN.{getD}
-use lib.Dec.{ltb}
+use lib.Dec.{ltb, leb}
 use mathlib.Core.Bool.{Bool, true, false, _&&_}
 use borrow.Author.Needs.{needs}
-use borrow.Author.Tests.{ltb-true}
+use borrow.Author.Tests.{ltb-true, leb-true}
 use denote.Ref.{now}
-use Rattle.reading.proofs.ReadingGroups.{no-group, one-group, one-too-large, small-bound, two-groups, more-groups}
+use Rattle.reading.proofs.ReadingGroups.{no-group, one-group, one-too-large, small-bound, two-groups, three-groups, more-groups}
 use Rattle.reading.proofs.numbers.number_at.Statement.{statement}
 use Rattle.reading.proofs.numbers.number_at.Tie as tie
 
@@ -24,11 +24,11 @@ shared-slice-read-b c = search needs
 cast-b : tie.Need-cast-b
 cast-b c = omega (arith, c .shared-slice-known2 .given (c .before .before .before .args .at))
 
-cast-t12 : tie.Need-cast-t12
-cast-t12 c = search needs
+cast-t14 : tie.Need-cast-t14
+cast-t14 c = search needs
 
-add-t13 : tie.Need-add-t13
-add-t13 c = search needs
+add-t15 : tie.Need-add-t15
+add-t15 c = search needs
 
 returns-2 : tie.Need-returns-2
 returns-2 c =
@@ -84,11 +84,11 @@ two c =
     let u = both (ltb 0 second) (ltb second 128) (t .0) in
     (ltb-true 0 second (u .0), ltb-true second 128 (u .1), ltb-true n (a .bound) (t .1))
 
-cast-t25 : tie.Need-cast-t25
-cast-t25 c = omega (arith, two c)
+cast-t27 : tie.Need-cast-t27
+cast-t27 c = omega (arith, two c)
 
-add-t26 : tie.Need-add-t26
-add-t26 c = search needs
+add-t28 : tie.Need-add-t28
+add-t28 c = search needs
 
 returns-5 : tie.Need-returns-5
 returns-5 c =
@@ -97,6 +97,75 @@ returns-5 c =
     let t = two c in
     two-groups (now (a .bytes)) (a .at) (a .end) (a .bound) (omega arith) (omega arith) (omega arith) (omega arith) (t .0) (t .1) (t .2)
 
+add-if7 : tie.Need-add-if7
+add-if7 c = search needs
+
+add-d : tie.Need-add-d
+add-d c = search needs
+
+-- A third group stands there, and the second is not the last.
+third : (c : tie.Then7) → let a = c .before .before .before .before .before .before .before .before .before .args in
+    (a .at + 2 < a .end) × (128 ≤ getD (now (a .bytes)) (a .at + 1) 0)
+third c =
+    let a = c .before .before .before .before .before .before .before .before .before .args in
+    let t = both (ltb (a .at + 2) (a .end)) (leb 128 (getD (now (a .bytes)) (a .at + 1) 0)) (c .if7 .taken) in
+    (ltb-true (a .at + 2) (a .end) (t .0), leb-true 128 (getD (now (a .bytes)) (a .at + 1) 0) (t .1))
+
+-- The three bytes.
+three-bytes : (c : tie.After-shared-slice-known4) → let a = c .before .before .before .before .before .before .before .before .before .before .args in
+    (getD (now (a .bytes)) (a .at) 0 < 256) × (getD (now (a .bytes)) (a .at + 1) 0 < 256) × (getD (now (a .bytes)) (a .at + 2) 0 < 256)
+three-bytes c =
+    let a = c .before .before .before .before .before .before .before .before .before .before .args in
+    (omega (arith, c .before .before .before .before .before .before .before .shared-slice-known2 .given (a .at)), omega (arith, c .before .before .before .shared-slice-known3 .given (a .at + 1)), omega (arith, c .shared-slice-known4 .given (a .at + 2)))
+
+shared-slice-read-d : tie.Need-shared-slice-read-d
+shared-slice-read-d c = omega (arith, third (c .before))
+
+cast-d : tie.Need-cast-d
+cast-d c = omega (arith, three-bytes c)
+
+sub-n : tie.Need-sub-n
+sub-n c = omega (arith, third (c .before))
+
+mul-n-2 : tie.Need-mul-n-2
+mul-n-2 c = omega (arith, three-bytes c)
+
+add-n-2 : tie.Need-add-n-2
+add-n-2 c = omega (arith, three-bytes c)
+
+mul-n-3 : tie.Need-mul-n-3
+mul-n-3 c = omega (arith, three-bytes c)
+
+add-n-3 : tie.Need-add-n-3
+add-n-3 c = omega (arith, three-bytes c)
+
+-- The third group is the last, and the number is below the bound.
+three : (c : tie.Then8) → let a = c .before .before .before .before .before .before .before .before .before .before .before .args in
+    let last = getD (now (a .bytes)) (a .at + 2) 0 in
+    let n = getD (now (a .bytes)) (a .at) 0 - 128 + 128 * (getD (now (a .bytes)) (a .at + 1) 0 - 128) + 16384 * last in
+    (0 < last) × (last < 128) × (n < a .bound)
+three c =
+    let a = c .before .before .before .before .before .before .before .before .before .before .before .args in
+    let last = getD (now (a .bytes)) (a .at + 2) 0 in
+    let n = getD (now (a .bytes)) (a .at) 0 - 128 + 128 * (getD (now (a .bytes)) (a .at + 1) 0 - 128) + 16384 * last in
+    let t = both (ltb 0 last && ltb last 128) (ltb n (a .bound)) (c .if8 .taken) in
+    let u = both (ltb 0 last) (ltb last 128) (t .0) in
+    (ltb-true 0 last (u .0), ltb-true last 128 (u .1), ltb-true n (a .bound) (t .1))
+
+cast-t42 : tie.Need-cast-t42
+cast-t42 c = omega (arith, three c)
+
+add-t43 : tie.Need-add-t43
+add-t43 c = search needs
+
+returns-6 : tie.Need-returns-6
+returns-6 c =
+    let a = c .before .before .before .before .before .before .before .before .before .before .before .args in
+    let byte = three-bytes (c .before) in
+    let more = third (c .before .before) in
+    let t = three c in
+    three-groups (now (a .bytes)) (a .at) (a .end) (a .bound) (omega arith) (more .0) (omega arith) (byte .0) (more .1) (byte .1) (t .0) (t .1) (t .2)
+
 add-read-more : tie.Need-add-read-more
 add-read-more c = search needs
 
@@ -104,8 +173,8 @@ read-more-requires : tie.Need-read-more-requires
 read-more-requires c κs =
     omega (arith, c .before .before .before .shared-slice-known2 .given (c .before .before .before .before .before .before .args .at))
 
-returns-6 : tie.Need-returns-6
-returns-6 c =
+returns-7 : tie.Need-returns-7
+returns-7 c =
     let a = c .before .before .before .before .before .before .before .args in
     let byte = c .before .before .before .before .shared-slice-known2 .given (a .at) in
     rw (← more-groups (now (a .bytes)) (a .at) (a .end) (a .bound) (omega arith) (omega arith) (omega arith) (omega arith))
@@ -118,8 +187,8 @@ number-at-spec =
     returns
     shared-slice-read-b
     cast-b
-    cast-t12
-    add-t13
+    cast-t14
+    add-t15
     returns-2
     returns-3
     returns-4
@@ -129,9 +198,21 @@ number-at-spec =
     cast-c
     mul-n
     add-n
-    cast-t25
-    add-t26
+    cast-t27
+    add-t28
     returns-5
+    add-if7
+    add-d
+    shared-slice-read-d
+    cast-d
+    sub-n
+    mul-n-2
+    add-n-2
+    mul-n-3
+    add-n-3
+    cast-t42
+    add-t43
+    returns-6
     add-read-more
     read-more-requires
-    returns-6)
+    returns-7)
