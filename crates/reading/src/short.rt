@@ -8,7 +8,7 @@ ghost use lib.ListN.{length};
 ghost use Rattle.trail.specs.Newest.{before-L, newest-fitted};
 ghost use Rattle.reading.specs.Finding.{Says};
 
-// The bounds of what is read: L, the marks, a number of one group, and P.
+// The bounds of what is read: L of a record so short, the marks, a number of one group, and P.
 const LENGTHS: u64 = 4;
 
 const MARKS: u64 = 64;

@@ -14,7 +14,7 @@ use Rattle.trail.specs.declared.OldValues.{OldValues}
 use Rattle.trail.specs.declared.Word.{Word}
 use Rattle.trail.specs.Numbers.{groups, bytes-if, GoodIf}
 use Rattle.trail.specs.Records.{marked, body, record-bytes, Good, differs, word-changed, old-values}
-use Rattle.trail.specs.OneChange.{one-value}
+use Rattle.trail.specs.OneChange.{closed, one-value}
 use Rattle.trail.proofs.NumbersReadBack.{cap, groups-one, groups-more}
 use Rattle.trail.proofs.Marks.{bit, marks, Sound, old-values-good}
 
@@ -101,10 +101,16 @@ pub record ValueSizes (marks p place v : ℕ) : Type 0 where
   pub of-place : length (bytes-if (marked 8 marks) place) ≤ 3
   pub of-value : length (groups v) ≤ 5
 
+pub p-size : {p : ℕ} → p < 2 ^ 20 → length (groups p) ≤ 3
+p-size {p} h = groups-few 2 p (omega arith)
+
+pub p-fits : (marks : ℕ) {p : ℕ} → p < 2 ^ 20 → length (closed (marks ∷ groups p)) ≤ 28
+p-fits marks {p} h = omega (arith, p-size h, length-append (groups p) (length (marks ∷ groups p) ∷ []))
+
 pub value-sizes : (marks : ℕ) {p place v : ℕ} → p < 2 ^ 20 → place < 2 ^ 21 → v < 2 ^ 32 → ValueSizes marks p place v
 value-sizes marks {p} {place} {v} hp hq hv =
     record {
-      of-p = groups-few 2 p (omega arith);
+      of-p = p-size hp;
       of-place = if-place (marked 8 marks) place hq;
       of-value = groups-few 4 v (omega arith);
     }

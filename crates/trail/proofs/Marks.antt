@@ -13,7 +13,6 @@ use Rattle.trail.specs.declared.Word.{Word}
 use Rattle.trail.specs.declared.Word.the-variants.{Kept, Changed}
 use Rattle.trail.specs.Numbers.{GoodIf}
 use Rattle.trail.specs.Records.{marked, differs, word-changed, word-place, word-value, marks-by, Addressed, Good, old-values}
-use Rattle.trail.specs.OneChange.{one-change}
 
 pub bit : (t : Bool) → BV t ≤ 1
 bit true = omega arith
@@ -95,17 +94,4 @@ old-values-good {old} new {w} s =
       y = rw (m .y) (good-if (differs (old .y) (new .y)) (2 ^ 32) (old .y) (s .y));
       place = rw (m .word) (good-place w (s .address));
       value = rw (m .word) (good-value w (s .value));
-    }
-
-pub one-change-good : (a x y : Bool) {old p : ℕ} (b s : Bool) (w : Word) → p < 2 ^ 20 → old < 2 ^ 32 → Addressed w → word-value w < 2 ^ 32 → Good (2 ^ 21) (one-change a x y old p b s w)
-one-change-good a x y {old} {p} b s w hp ho ha hv =
-    let m = bits a x y (word-changed w) b s in
-    record {
-      marks = m .few;
-      p = hp;
-      a = rw (m .a) (good-if a (2 ^ 32) old ho);
-      x = rw (m .x) (good-if x (2 ^ 32) old ho);
-      y = rw (m .y) (good-if y (2 ^ 32) old ho);
-      place = rw (m .word) (good-place w ha);
-      value = rw (m .word) (good-value w hv);
     }

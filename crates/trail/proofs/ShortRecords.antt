@@ -9,7 +9,6 @@ use lib.Dec.{eqb}
 use Rattle.report.specs.AnnexA.{BV}
 use Rattle.machine.specs.declared.Place.{Place}
 use Rattle.trail.specs.declared.Added.{Added}
-use Rattle.trail.specs.declared.OldValues.{OldValues}
 use Rattle.trail.specs.declared.Word.the-variants.{Kept, Changed}
 use Rattle.trail.specs.Numbers.{groups}
 use Rattle.trail.specs.Records.{added, record-bytes, marks-by, place-number}
@@ -49,12 +48,6 @@ pub adds-groups : (trail : List ℕ) (used m p v : ℕ) {q s : List ℕ} {r : Ad
 adds-groups trail used m p v e f h = rw (e, f) h
 
 -- ---- no register and no word
-
-abbrev pub held : ℕ → ℕ → ℕ → ℕ → ℕ → ℕ → ℕ → OldValues
-held marks p a x y place value = record { marks = marks; p = p; a = a; x = x; y = y; place = place; value = value }
-
-pub as-kept : {k l : ℕ} (p : ℕ) (b s : Bool) → k ≡ 16 * BV b → l ≡ 32 * BV s → held (k + l) p 0 0 0 0 0 ≡ registers-kept p b s Kept
-as-kept {k} {l} p b s e f = let m : k + l ≡ marks-by false false false false b s = omega arith in rw m
 
 kept-bytes : (p : ℕ) (b s : Bool) → record-bytes (registers-kept p b s Kept) ≡ closed (marks-by false false false false b s ∷ groups p)
 unfolding record-bytes

@@ -184,6 +184,30 @@ fn add_short(
     copy(trail, used, &r.bytes, r.len)
 }
 
+// Puts the bytes of a record with no value, L last, and answers their count.
+fn fill_marks_and_p(bytes: &mut [u8; 28], marks: u32, p: u32) -> usize
+    requires { ⌜ (marks < 64) × (p < 2 ^ 20) × (length (now bytes) ≡ 28) ⌝ }
+    ensures { λ n. ⌜ Put 0 (closed (marks ∷ groups p)) (now (bytes .entry)) (now (bytes .exit)) n ⌝ }
+{
+    bytes[0] = marks as u8;
+    let n = put_number(bytes, 1, p);
+    bytes[n] = n as u8;
+    n + 1
+}
+
+// Adds a record with no value: the marks and P. A call of `add` in its place made every step five instructions longer.
+fn add_marks_and_p(trail: &mut [u8], used: usize, marks: u32, p: u32) -> Added
+    requires { ⌜ (used ≤ length (now trail)) × (marks < 64) × (p < 2 ^ 20) ⌝ }
+    ensures { λ r. ⌜ (r, now (trail .exit)) ≡ added (now (trail .entry)) used (closed (marks ∷ groups p)) ⌝ }
+{
+    let mut r = Record {
+        bytes: [0; 28],
+        len: 0,
+    };
+    r.len = fill_marks_and_p(&mut r.bytes, marks, p);
+    copy(trail, used, &r.bytes, r.len)
+}
+
 // Adds the record of an operation that changed no register and no word.
 pub fn add_flags(trail: &mut [u8], used: usize, p: u32, b: bool, stop: bool) -> Added
     requires { ⌜ (used ≤ length (now trail)) × (p < 2 ^ 20) ⌝ }
@@ -209,16 +233,7 @@ pub fn add_flags(trail: &mut [u8], used: usize, p: u32, b: bool, stop: bool) -> 
             0,
         );
     }
-    let o = OldValues {
-        marks,
-        p,
-        a: 0,
-        x: 0,
-        y: 0,
-        place: 0,
-        value: 0,
-    };
-    add(trail, used, o)
+    add_marks_and_p(trail, used, marks, p)
 }
 
 // Puts the bytes of a record with one value, L last, and answers their count.

@@ -1,16 +1,10 @@
 -- `add_flags` meets its contract: the short records are those that `add` would make.
 -- Assumes nothing.
-use mathlib.Core.Path.{sym, subst, ap, _∙_}
-use mathlib.Core.Bool.{false}
-use Prim.Native.Nat.{_^_}
+use mathlib.Core.Path.{refl}
 use native.Mathlib.Omega.{arith}
 use borrow.Author.Needs.{needs}
-use Rattle.trail.specs.declared.Word.the-variants.{Kept}
-use Rattle.trail.specs.declared.OldValues.{OldValues}
-use Rattle.trail.specs.Records.{added, record-bytes, Good}
 use Rattle.trail.proofs.NumbersReadBack.{groups-one}
-use Rattle.trail.proofs.Marks.{one-change-good}
-use Rattle.trail.proofs.ShortRecords.{groups-two, as-kept, adds-kept}
+use Rattle.trail.proofs.ShortRecords.{groups-two, adds-kept}
 use Rattle.trail.proofs.records.add_flags.Statement.{statement}
 use Rattle.trail.proofs.records.add_flags.Tie as tie
 
@@ -66,10 +60,8 @@ returns-2 c =
     (groups-two (c .before .before .before .before .before .before .if1 .left) (c .before .before .before .before .before .if2 .taken) (c .before .before .before .group .ensures))
     (c .before .before .add-short2 .ensures)
 
-add-requires : tie.Need-add-requires
-add-requires c κs =
-    let a = c .before .before .before .before .before .before .args in
-    (omega arith, subst (Good (2 ^ 21)) (sym (as-kept (a .p) (a .b) (a .stop) (c .before .before .before .before .weight .ensures .0) (c .before .before .before .weight2 .ensures .0))) (one-change-good false false false {old = 0} (a .b) (a .stop) Kept (omega arith) (omega arith) tt (omega arith)))
+add-marks-and-p-requires : tie.Need-add-marks-and-p-requires
+add-marks-and-p-requires c κs = search needs
 
 same-length-3 : tie.Need-same-length-3
 same-length-3 c = search needs
@@ -77,8 +69,10 @@ same-length-3 c = search needs
 returns-3 : tie.Need-returns-3
 returns-3 c =
     let a = c .before .before .before .before .before .before .before .before .before .args in
-    c .before .before .add .ensures
-    ∙ ap (λ (o : OldValues). added (a .trail .now) (a .used) (record-bytes o)) (as-kept (a .p) (a .b) (a .stop) (c .before .before .before .before .before .before .before .weight .ensures .0) (c .before .before .before .before .before .before .weight2 .ensures .0))
+    adds-kept (a .trail .now) (a .used) (a .p) (a .b) (a .stop)
+    (omega (arith, c .before .before .before .before .before .before .before .weight .ensures .0, c .before .before .before .before .before .before .weight2 .ensures .0))
+    refl
+    (c .before .before .add-marks-and-p .ensures)
 
 pub add-flags-spec : {M : Type 1} → statement M
 add-flags-spec =
@@ -98,6 +92,6 @@ add-flags-spec =
     add-short-requires-2
     same-length-2
     returns-2
-    add-requires
+    add-marks-and-p-requires
     same-length-3
     returns-3)
