@@ -251,21 +251,21 @@ module _ (main ports : ℕ) where
       let no-word : (o .marks / 8 % 2 ≡ 1 → ⊥) = λ e. omega (arith, e, sixteen (o .marks), h .marks) in
       record { holds = rw (h .holds, ne-eqb (o .marks / 8 % 2) 1 no-word); marks = h .marks }
 
-  says-fitted : (r : ShortRecord) (n : Newest) → Says r n → Says r (only-fitted main ports n)
-  says-fitted (short.Kept o left) n h = holds-fitted (omega arith) h
-  says-fitted (short.A o left) n h = holds-fitted (omega arith) h
-  says-fitted (short.X o left) n h = holds-fitted (omega arith) h
-  says-fitted (short.Y o left) n h = holds-fitted (omega arith) h
-  says-fitted short.Broken n h = rw h
-  says-fitted short.Longer n h = h
+  says-fitted : (l : ℕ) (r : ShortRecord) (n : Newest) → Says l r n → Says l r (only-fitted main ports n)
+  says-fitted l (short.Kept o left) n h = holds-fitted (omega arith) h
+  says-fitted l (short.A o left) n h = holds-fitted (omega arith) h
+  says-fitted l (short.X o left) n h = holds-fitted (omega arith) h
+  says-fitted l (short.Y o left) n h = holds-fitted (omega arith) h
+  says-fitted l short.Broken n h = rw h
+  says-fitted l short.Longer n h = h
 
 by-L : (s : List ℕ) (used k : ℕ) → getD s (used - 1) 0 ≡ k → newest·of (2 ^ 21) s used ≡ before-L (2 ^ 21) s (used - 1) k
 unfolding newest·of
 by-L s used k e = rw e
 
-pub says-newest : (s : List ℕ) (used k : ℕ) (r : ShortRecord) → getD s (used - 1) 0 ≡ k → Says r (before-L (2 ^ 21) s (used - 1) k) → (main ports : ℕ) → Says r (newest-fitted main ports s used)
+pub says-newest : (s : List ℕ) (used k : ℕ) (r : ShortRecord) → getD s (used - 1) 0 ≡ k → Says k r (before-L (2 ^ 21) s (used - 1) k) → (main ports : ℕ) → Says (getD s (used - 1) 0) r (newest-fitted main ports s used)
 unfolding newest-fitted
-says-newest s used k r e h main ports = rw (by-L s used k e) (says-fitted main ports r (before-L (2 ^ 21) s (used - 1) k) h)
+says-newest s used k r e h main ports = rw (by-L s used k e, e) (says-fitted main ports k r (before-L (2 ^ 21) s (used - 1) k) h)
 
 pub too-few : (s : List ℕ) (used : ℕ) → getD s (used - 1) 0 < 2 → (main ports : ℕ) → newest-fitted main ports s used ≡ newest.Broken
 unfolding newest-fitted

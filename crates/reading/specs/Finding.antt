@@ -1,7 +1,7 @@
 -- What the code says of a number that it read, and of the numbers of a record, read one after another: where one is broken, every place after it
 -- is past the end.
 -- Assumes nothing.
-use Prim.Native.Nat.{ℕ, _+_, _-_, _%_}
+use Prim.Native.Nat.{ℕ, _+_, _-_, _%_, _≤_}
 use mathlib.Core.Path.{_≡_}
 use mathlib.Core.Bool.{Bool, cond}
 use mathlib.Core.List.{List}
@@ -37,11 +37,11 @@ pub record Holds (n : Newest) (o : OldValues) (left weights : ℕ) : Type 0 wher
   pub holds : n ≡ newest.Record o left
   pub marks : o .marks % 16 ≡ weights
 
--- What a short record says of the newest one; of a longer one it says nothing.
-abbrev pub Says : ShortRecord → Newest → Type 0
-Says (short.Kept o left) n = Holds n o left 0
-Says (short.A o left) n = Holds n o left 1
-Says (short.X o left) n = Holds n o left 2
-Says (short.Y o left) n = Holds n o left 4
-Says short.Broken n = n ≡ newest.Broken
-Says short.Longer n = Unit {0}
+-- What a short record says of the newest one, by its L: where four bytes or more stand before L, that alone.
+abbrev pub Says : ℕ → ShortRecord → Newest → Type 0
+Says l (short.Kept o left) n = Holds n o left 0
+Says l (short.A o left) n = Holds n o left 1
+Says l (short.X o left) n = Holds n o left 2
+Says l (short.Y o left) n = Holds n o left 4
+Says l short.Broken n = n ≡ newest.Broken
+Says l short.Longer n = 4 ≤ l

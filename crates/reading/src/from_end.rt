@@ -14,9 +14,9 @@ ghost use Rattle.trail.specs.Newest.{leaving, read-record, newest-fitted};
 // The bounds of what is read: L, the marks, P, the number of a place, and a register or a word.
 const LENGTHS: u64 = 28;
 
-const MARKS: u64 = 64;
+pub(crate) const MARKS: u64 = 64;
 
-const ADDRESSES: u64 = 1_048_576;
+pub(crate) const ADDRESSES: u64 = 1_048_576;
 
 const PLACES: u64 = 2_097_152;
 

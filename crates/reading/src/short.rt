@@ -1,21 +1,19 @@
 // The newest record where two or three bytes stand before L: most steps add such a one. Its numbers stand at known places, so they are not read
 // one after another, and taking it back is quick. No trail byte is written here.
+use crate::from_end::ADDRESSES;
+use crate::from_end::MARKS;
 use crate::numbers::Number;
 use crate::reader::read_number;
 use trail::OldValues;
-ghost use Prim.Native.Nat.{ℕ, _^_, _<_, _≤_};
-ghost use lib.ListN.{length};
+ghost use Prim.Native.Nat.{ℕ, _-_, _^_, _<_, _≤_};
+ghost use lib.ListN.{length, getD};
 ghost use Rattle.trail.specs.Newest.{before-L, newest-fitted};
 ghost use Rattle.reading.specs.Finding.{Says};
 
-// The bounds of what is read: L of a record so short, the marks, a number of one group, and P.
-const LENGTHS: u64 = 4;
-
-const MARKS: u64 = 64;
+// The bounds of an L so small, and of a number of one group.
+const SHORT: u64 = 4;
 
 const GROUP: u64 = 128;
-
-const ADDRESSES: u64 = 1_048_576;
 
 // What a record so short marks beside the flags: nothing, A, X or Y; its old values, and the count of bytes in use once it is gone.
 // Or it is broken, or it is not so short.
@@ -31,7 +29,7 @@ pub enum ShortRecord {
 // Marks and P, each one byte: nothing is marked.
 fn two_bytes(trail: &[u8], end: usize) -> ShortRecord
     requires { ⌜ end < length (now trail) ⌝ }
-    ensures { λ r. ⌜ Says r (before-L (2 ^ 21) (now (trail .entry)) end 2) ⌝ }
+    ensures { λ r. ⌜ Says 2 r (before-L (2 ^ 21) (now (trail .entry)) end 2) ⌝ }
 {
     if end < 2 {
         return ShortRecord::Broken;
@@ -61,7 +59,7 @@ fn two_bytes(trail: &[u8], end: usize) -> ShortRecord
 // Marks and P in two bytes, if nothing is marked; else marks, P and the only value, each one byte.
 fn three_bytes(trail: &[u8], end: usize) -> ShortRecord
     requires { ⌜ end < length (now trail) ⌝ }
-    ensures { λ r. ⌜ Says r (before-L (2 ^ 21) (now (trail .entry)) end 3) ⌝ }
+    ensures { λ r. ⌜ Says 3 r (before-L (2 ^ 21) (now (trail .entry)) end 3) ⌝ }
 {
     if end < 3 {
         return ShortRecord::Broken;
@@ -138,10 +136,10 @@ fn three_bytes(trail: &[u8], end: usize) -> ShortRecord
 // The newest record of a trail of which `used` bytes are in use, if it is so short. It marks no word, so the stores do not matter.
 pub fn read_short(trail: &[u8], used: usize) -> ShortRecord
     requires { ⌜ (0 < used) × (used ≤ length (now trail)) ⌝ }
-    ensures { λ r. ⌜ ((main ports : ℕ) → Says r (newest-fitted main ports (now (trail .entry)) used)) ⌝ }
+    ensures { λ r. ⌜ ((main ports : ℕ) → Says (getD (now (trail .entry)) (used - 1) 0) r (newest-fitted main ports (now (trail .entry)) used)) ⌝ }
 {
     let end = used - 1;
-    let Number::Got(n, _) = read_number(trail, end, used, LENGTHS) else {
+    let Number::Got(n, _) = read_number(trail, end, used, SHORT) else {
         return ShortRecord::Longer;
     };
     if n == 2 {

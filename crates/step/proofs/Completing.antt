@@ -4,16 +4,16 @@
 -- Assumes nothing.
 use mathlib.Core.Path.{_≡_, refl, sym, ap, _∙_}
 use mathlib.Core.Bool.{Bool, true, false, not, cond, _&&_, true≢false}
-use mathlib.Core.List.{List, [], _∷_}
+use mathlib.Core.List.{List}
 use Prim.Native.Nat.{ℕ, zero, suc, _+_, _%_, _^_, _<_, _≤_}
 use native.Mathlib.Omega.{arith}
 use native.Mathlib.Nat.{mod-eq-of-lt}
-use lib.Dec.{eqb, leb, ltb}
+use lib.Dec.{eqb, ltb}
 use lib.ListN.{length, getD, set, length-set}
 use lib.Seq.{getD-set-same, getD-set-other}
-use borrow.Author.Tests.{eq-eqb, ne-eqb, eqb-true, le-leb, lt-leb, leb-true}
+use borrow.Author.Tests.{eq-eqb, ne-eqb, le-leb, lt-leb}
 use Rattle.report.specs.AnnexA.{Mem}
-use Rattle.report.specs.Section3.{Triple, REG, OFFSET, COMPARE, ALU}
+use Rattle.report.specs.Section3.{Triple, OFFSET, COMPARE, ALU}
 use Rattle.report.specs.Parts.{fitted, word-at, bad, top, fsf, dsf, jumping, to-p, Part, halts, compares, writes, skips, computes, part-by, InRange}
 use Rattle.report.proofs.Readings.{offset-is}
 use Rattle.report.specs.Parts as parts
@@ -37,9 +37,9 @@ use Rattle.step.specs.declared.phases.Fetched.the-variants as fetch
 use Rattle.step.specs.declared.phases.Operand.{Operand}
 use Rattle.step.specs.declared.phases.Operand.the-variants as operand
 use Rattle.step.specs.Phases as phases
-use Rattle.step.specs.Phases.{held, Change, alone, fetched, next-p, Decodes, constant-or, operand-of, Held, Unfitted, Operands, constant-or-word, write-to, operands-of, delivered, executed}
+use Rattle.step.specs.Phases.{held, Change, alone, fetched, next-p, Decodes, constant-or, operand-of, Held, Unfitted, constant-or-word, write-to, operands-of, delivered, executed}
 use Rattle.step.specs.Finishing as came·is
-use Rattle.step.specs.Finishing.{changed-to, changing, rewritten, Kept, came, End, ended, ended-by, completed, by-plan, once}
+use Rattle.step.specs.Finishing.{mark-weight, changed-to, changing, rewritten, Kept, End, ended, ended-by, completed, by-plan, once}
 use Rattle.step.proofs.Planning.{phases-plan, plan-from, not-fetched}
 use Rattle.step.proofs.Stores.{finish-full, finish-done}
 
@@ -49,12 +49,8 @@ pub kept-values : (g : List ℕ) (p₀ p : ℕ) (b₀ b stop : Bool) (w : Word) 
 unfolding old-values
 kept-values g p₀ p b₀ b stop w = rw (eq-eqb (getD g 0 0) (getD g 0 0) refl, eq-eqb (getD g 1 0) (getD g 1 0) refl, eq-eqb (getD g 2 0) (getD g 2 0) refl)
 
--- The weight of a register's mark.
-abbrev pub weight : ℕ → ℕ
-weight k = cond (eqb k 0) 1 (cond (eqb k 1) 2 4)
-
 pub register-values : (g : List ℕ) (k v p₀ p : ℕ) (b₀ b stop : Bool) → 2 < length g → k < 3 → (getD g k 0 ≡ v → ⊥)
-    → register-changed (weight k) p₀ b₀ false (getD g k 0) ≡ old-values (held g p₀ b₀ false) (held (set g k v) p b stop) word.Kept
+    → register-changed (mark-weight k) p₀ b₀ false (getD g k 0) ≡ old-values (held g p₀ b₀ false) (held (set g k v) p b stop) word.Kept
 unfolding old-values
 register-values g zero v p₀ p b₀ b stop l h q =
     rw (getD-set-same g 0 v 0 (omega arith), getD-set-other g 0 1 v 0 (λ e. omega arith), getD-set-other g 0 2 v 0 (λ e. omega arith), ne-eqb (getD g 0 0) v q, eq-eqb (getD g 1 0) (getD g 1 0) refl, eq-eqb (getD g 2 0) (getD g 2 0) refl)

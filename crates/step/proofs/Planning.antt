@@ -24,7 +24,7 @@ use Rattle.instruction.specs.Fields.{Fielded}
 use Rattle.instruction.specs.declared.Fields.{Fields}
 use Rattle.step.specs.Phases as plan
 use Rattle.step.specs.declared.phases.Fetched.the-variants as fetch
-use Rattle.step.specs.Phases.{Operands, Held, Unfitted, Written, Nothing, Word, Change, Plan, fetched, Decodes, next-p, source-of, word-from, write-to, operands-of, with-flags, delivered, alone, executed, lacks, step-unfitted, writing, planned}
+use Rattle.step.specs.Phases.{Operands, Held, Unfitted, Written, Nothing, Word, Plan, fetched, next-p, source-of, word-from, write-to, operands-of, with-flags, delivered, alone, executed, lacks, step-unfitted, writing, planned}
 
 -- ---- tests that exclude each other, over the 1,024 classes
 

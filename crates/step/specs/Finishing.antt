@@ -35,6 +35,10 @@ Addressed ram (written.Word q v) = Fitted ram (where-of q)
 abbrev pub changed-to : Place → ℕ → ℕ → Word
 changed-to q old v = cond (eqb old v) word.Kept (word.Changed q old)
 
+-- The weight of the mark of the register with this number: A, X and Y are 0, 1 and 2.
+abbrev pub mark-weight : ℕ → ℕ
+mark-weight k = cond (eqb k 0) 1 (cond (eqb k 1) 2 4)
+
 -- The word that changes, with its old value.
 abbrev pub changing : Mem → Written → Word
 changing ram written.Nothing = word.Kept

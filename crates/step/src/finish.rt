@@ -4,10 +4,9 @@ use machine::Place;
 use trail::Added;
 use trail::Word;
 ghost use mathlib.Core.Path.{_≡_};
-ghost use mathlib.Core.Bool.{false, cond};
+ghost use mathlib.Core.Bool.{false};
 ghost use mathlib.Core.List.{List};
 ghost use Prim.Native.Nat.{ℕ, _≤_, _<_, _^_};
-ghost use lib.Dec.{eqb};
 ghost use lib.ListN.{length, set};
 ghost use Rattle.report.specs.AnnexA.{Mem};
 ghost use Rattle.report.specs.Parts.{fitted, word-at, with-word};
@@ -15,7 +14,7 @@ ghost use Rattle.machine.specs.Held.{ram, where-of};
 ghost use Rattle.trail.specs.Records.{record-bytes, added};
 ghost use Rattle.trail.specs.OneChange.{registers-kept};
 ghost use Rattle.step.specs.Phases.{held, alone, Word as Word·written};
-ghost use Rattle.step.specs.Finishing.{Fitted, changed-to, came, Kept, ended, completed};
+ghost use Rattle.step.specs.Finishing.{Fitted, mark-weight, changed-to, came, Kept, ended, completed};
 
 // What became of a step: P, B and STOP and the count of bytes in use after it, or why it was not done.
 pub enum Stepped {
@@ -120,7 +119,7 @@ pub(crate) fn finish_flags(
 // The weight of a register's mark: 1, 2 and 4 for A, X and Y.
 fn mark_of(k: u32) -> u32
     requires { ⌜ k < 3 ⌝ }
-    ensures { λ w. ⌜ w ≡ cond (eqb k 0) 1 (cond (eqb k 1) 2 4) ⌝ }
+    ensures { λ w. ⌜ w ≡ mark-weight k ⌝ }
 {
     1 << k
 }

@@ -19,13 +19,10 @@ use Rattle.viper.specs.declared.Answer.{Answer}
 use Rattle.viper.specs.declared.Answer.the-variants.{Done, Refused}
 use Rattle.viper.specs.Operations.{newest-of}
 use Rattle.viper.specs.TakingBack.{back-outcome}
+use Rattle.viper.specs.Noting.{flagged}
 use Rattle.viper.specs.Judging.{first-refusals}
 use Rattle.viper.specs.Told.{bench}
 use Rattle.viper.proofs.Exits.{back-broken, back-done, none-restored}
-
--- The machine of three registers, with P and the flags of a record.
-abbrev flagged : ℕ → ℕ → ℕ → OldValues → Machine
-flagged a x y o = record { a = a; x = x; y = y; p = o .p; b = marked 16 (o .marks); stop = marked 32 (o .marks) }
 
 module _ (o : OldValues) (m : Machine) (main ports : List ℕ) where
   restored-none : o .marks % 16 ≡ 0 → flagged (m .a) (m .x) (m .y) o ≡ machine-of (restored o (state m (ram main ports)))
@@ -45,7 +42,7 @@ module _ (o : OldValues) (m : Machine) (main ports : List ℕ) where
   restored-y z = rw (ne-eqb (o .marks / 1 % 2) 1 (omega arith), ne-eqb (o .marks / 2 % 2) 1 (omega arith), eq-eqb (o .marks / 4 % 2) 1 (omega arith))
 
 -- No refusal before 8, and r is what the code found for the newest record.
-module _ (m : Machine) (main ports trail : List ℕ) (used : ℕ) (a : Answer) (k : a ≡ first-refusals (m .p) (length main) (length ports) (length trail) used) (d : a ≡ Done) (some-used : used ≡ 0 → ⊥) (r : ShortRecord) (said : Says r (newest-of (bench m main ports trail used))) where
+module _ (m : Machine) (main ports trail : List ℕ) (used : ℕ) (a : Answer) (k : a ≡ first-refusals (m .p) (length main) (length ports) (length trail) used) (d : a ≡ Done) (some-used : used ≡ 0 → ⊥) (r : ShortRecord) (l : ℕ) (said : Says l r (newest-of (bench m main ports trail used))) where
   ends : (o : OldValues) (n w : ℕ) (m′ : Machine) → Holds (newest-of (bench m main ports trail used)) o n w → marked 8 (o .marks) ≡ false → m′ ≡ machine-of (restored o (state m (ram main ports)))
       → record { answered = Done; bench = bench m′ main ports trail n } ≡ back-outcome (bench m main ports trail used)
   ends o n w m′ h no-word e =

@@ -2,7 +2,7 @@
 -- Then a run of steps: the definition at the start is the definition at the present bench, with the steps done counted along.
 -- Assumes nothing.
 use mathlib.Core.Path.{_≡_, refl, sym, ap, _∙_}
-use mathlib.Core.Bool.{Bool, true, false, not, cond, _||_}
+use mathlib.Core.Bool.{Bool, true, false, cond, _||_}
 use mathlib.Core.List.{List}
 use mathlib.Core.Option.{Option, none, some}
 use Prim.Native.Nat.{ℕ, zero, suc, _+_, _-_, _^_, _<_, _≤_}
@@ -12,7 +12,7 @@ use lib.ListN.{length, length-set}
 use borrow.Author.Tests.{not-false, le-ltb, lt-leb, ltb-false}
 use Rattle.report.specs.AnnexA.{Mem}
 use Rattle.report.specs.Section3.{State, NEXT}
-use Rattle.report.specs.Parts.{Where, with-word, fitted, Part, stopped, halts, compares, writes, skips, computes, part, word, of, output, after-by, after, place-by, writes-by, written, reads, InRange}
+use Rattle.report.specs.Parts.{Where, with-word, fitted, Part, stopped, halts, compares, writes, skips, computes, part, word, of, output, after-by, place-by, writes-by, written, reads, InRange}
 use Rattle.report.proofs.Stores.{either-false, placed-stores}
 use Rattle.report.proofs.Order.{next-by-parts}
 use Rattle.report.proofs.RangeKept.{next-in-range}

@@ -1,4 +1,4 @@
--- What reset and force share: the machine changes, the stores do not, and the record of the change goes to the trail; and what taking back does to the stores.
+-- What reset and force share: the machine changes, the stores do not, and the record of the change goes to the trail; and what taking back does to the machine and the stores.
 -- Assumes nothing.
 use Prim.Native.Nat.{ℕ, _+_, _-_, _^_}
 use mathlib.Core.Path.{_≡_}
@@ -31,6 +31,10 @@ noted m after ram trail used =
     (when (ltb (length trail - used) (length r)) TrailFull)))
     (record { state = state after ram; trail = put trail used r; used = used + length r })
     (record { state = state m ram; trail = trail; used = used })
+
+-- The machine of these registers, with P and the flags of a record.
+abbrev pub flagged : ℕ → ℕ → ℕ → OldValues → Machine
+flagged a x y o = record { a = a; x = x; y = y; p = o .p; b = marked 16 (o .marks); stop = marked 32 (o .marks) }
 
 -- The stores with the word of a record put back.
 abbrev pub stores-restored : OldValues → Mem → Mem

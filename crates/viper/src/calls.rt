@@ -23,11 +23,11 @@ use trail::Word;
 ghost use mathlib.Core.Path.{_≡_};
 ghost use mathlib.Core.Bool.{cond};
 ghost use mathlib.Core.List.{List};
-ghost use Prim.Native.Nat.{ℕ, _≤_, _<_, _^_};
+ghost use Prim.Native.Nat.{ℕ, _<_};
 ghost use lib.ListN.{length};
 ghost use Rattle.machine.specs.Held.{ram, state, machine-of};
-ghost use Rattle.trail.specs.Records.{restored, marked};
-ghost use Rattle.viper.specs.Noting.{noted, stores-restored, Refits};
+ghost use Rattle.trail.specs.Records.{restored};
+ghost use Rattle.viper.specs.Noting.{noted, flagged as flagged·of, stores-restored, Refits};
 ghost use Rattle.viper.specs.Operations.{reset as reset·op, force as force·op, step as step·op, set-word, outcome};
 ghost use Rattle.viper.specs.Runs.{over-and-over, run-outcome};
 ghost use Rattle.viper.specs.TakingBack.{back-outcome};
@@ -347,7 +347,7 @@ fn word_restored(o: OldValues, main: &mut [u32], ports: &mut [u32])
 
 // The machine of these registers, with P and the flags of a record.
 fn flagged(a: u32, x: u32, y: u32, o: OldValues) -> Machine
-    ensures { λ r. ⌜ r ≡ record { a = a; x = x; y = y; p = o .p; b = marked 16 (o .marks); stop = marked 32 (o .marks) } ⌝ }
+    ensures { λ r. ⌜ r ≡ flagged·of a x y o ⌝ }
 {
     Machine {
         a,

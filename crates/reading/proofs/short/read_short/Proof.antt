@@ -6,7 +6,7 @@ use native.Mathlib.Omega.{arith}
 use denote.Ref.{now}
 use lib.ListN.{getD}
 use borrow.Author.Needs.{needs}
-use Rattle.reading.proofs.ReadingNumbers.{is-byte}
+use Rattle.reading.proofs.ReadingNumbers.{is-byte, no-byte}
 use Rattle.reading.proofs.ShortRecords.{says-newest, too-few}
 use Rattle.reading.proofs.short.read_short.Statement.{statement}
 use Rattle.reading.proofs.short.read_short.Tie as tie
@@ -31,7 +31,9 @@ enum-told : tie.Need-enum-told
 enum-told c = search needs
 
 returns : tie.Need-returns
-returns c = search needs
+returns c =
+    let a = c .before .before .before .before .args in
+    λ main ports. no-byte (now (a .trail)) (a .used - 1) (a .used) 4 (omega arith) (omega arith) (omega arith) (c .before .before .read-number .ensures) (c .enum-told .given .1)
 
 two-bytes-requires : tie.Need-two-bytes-requires
 two-bytes-requires c κs = search needs

@@ -1,7 +1,6 @@
 -- The record is that of an operation that changed this register, or none if the value is the same.
-use mathlib.Core.Path.{_≡_, refl, sym, ap, _∙_}
-use mathlib.Core.Bool.{Bool, false}
-use mathlib.Core.List.{List}
+use mathlib.Core.Path.{_≡_, refl, ap, _∙_}
+use mathlib.Core.Bool.{false}
 use Prim.Native.Nat.{ℕ, zero, suc, _<_}
 use native.Mathlib.Omega.{arith}
 use lib.ListN.{getD, set, length-set}
@@ -11,13 +10,13 @@ use Rattle.report.specs.AnnexA.{Mem}
 use Rattle.trail.specs.OneChange.{Register, is-a, is-x, is-y, register-changed}
 use Rattle.trail.specs.declared.Word.the-variants.{Kept}
 use Rattle.step.specs.Phases.{held, alone}
-use Rattle.step.specs.Finishing.{completed}
-use Rattle.step.proofs.Completing.{weight, register-values, completes-full, completes, kept-same}
+use Rattle.step.specs.Finishing.{mark-weight}
+use Rattle.step.proofs.Completing.{register-values, completes-full, completes, kept-same}
 use borrow.Author.Needs.{needs}
 use Rattle.step.proofs.finish.finish_register.Statement.{statement}
 use Rattle.step.proofs.finish.finish_register.Tie as tie
 
-weighs : (k : ℕ) → k < 3 → Register (weight k)
+weighs : (k : ℕ) → k < 3 → Register (mark-weight k)
 weighs zero h = is-a
 weighs (suc zero) h = is-x
 weighs (suc (suc zero)) h = is-y

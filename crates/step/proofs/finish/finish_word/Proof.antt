@@ -42,7 +42,7 @@ returns c =
     (written-over stores (a .place) old (a .v) (c .before .before .before .before .before .before .word-at .ensures)) (kept-values g (a .p0) (a .p) (a .b0) (a .b0) false (changed-to (a .place) old (a .v))) (c .before .before .before .before .note-word .ensures) (c .enum-told .given .1)
 
 put-word-requires : tie.Need-put-word-requires
-put-word-requires c κs = search needs
+put-word-requires c κs = c .before .before .before .before .before .before .before .before .before .before .before .before .before .before .before .pre .1
 
 same-length-4 : tie.Need-same-length-4
 same-length-4 c = search needs

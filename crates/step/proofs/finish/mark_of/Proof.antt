@@ -1,14 +1,13 @@
 -- 2 to the power of k, for k 0, 1 and 2.
 use mathlib.Core.Path.{_≡_, refl}
-use mathlib.Core.Bool.{cond}
 use Prim.Native.Nat.{ℕ, zero, suc, _*_, _%_, _^_, _<_}
 use native.Mathlib.Omega.{arith}
-use lib.Dec.{eqb}
+use Rattle.step.specs.Finishing.{mark-weight}
 use borrow.Author.Needs.{needs}
 use Rattle.step.proofs.finish.mark_of.Statement.{statement}
 use Rattle.step.proofs.finish.mark_of.Tie as tie
 
-powers : (k : ℕ) → k < 3 → 1 * 2 ^ k % 2 ^ 32 ≡ cond (eqb k 0) 1 (cond (eqb k 1) 2 4)
+powers : (k : ℕ) → k < 3 → 1 * 2 ^ k % 2 ^ 32 ≡ mark-weight k
 powers zero h = refl
 powers (suc zero) h = refl
 powers (suc (suc zero)) h = refl

@@ -1,5 +1,5 @@
 -- Each way out is one of Completing's, at the values that the phases gave. The two ways to a register meet before the finish.
-use mathlib.Core.Path.{refl, sym, ap, _∙_}
+use mathlib.Core.Path.{refl}
 use native.Mathlib.Omega.{arith}
 use mathlib.Core.Logic.{⊎-elim}
 use Prim.Native.Nat.{_+_, _<_}

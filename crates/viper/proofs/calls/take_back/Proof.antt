@@ -53,7 +53,7 @@ returns-3 : tie.Need-returns-3
 returns-3 c =
     let s = c .before .before .before .before .before .before .before .before .before .before .before .before .before in
     ap (λ (o : Outcome). told o (now (s .args .main)) (now (s .args .ports)) (now (s .args .trail))) (c .answered3 .ensures)
-    ∙ kept-back (s .args .m) (now (s .args .main)) (now (s .args .ports)) (now (s .args .trail)) (s .args .used) (c .before .before .before .before .before .before .before .before .before .judge .result) (c .before .before .before .before .before .before .before .before .before .judge .ensures) (c .before .before .before .before .before .before .before .enum-told .given .1) (c .before .before .before .before .before .before .if1 .left) (c .before .before .before .before .before .read-short .result) (c .before .before .before .before .before .read-short .ensures (length (now (s .args .main))) (length (now (s .args .ports)))) (c .before .before .before .short .given .0 .0) (c .before .before .before .short .given .0 .1 .0) (c .before .before .before .short .given .1) (c .before .flagged .ensures)
+    ∙ kept-back (s .args .m) (now (s .args .main)) (now (s .args .ports)) (now (s .args .trail)) (s .args .used) (c .before .before .before .before .before .before .before .before .before .judge .result) (c .before .before .before .before .before .before .before .before .before .judge .ensures) (c .before .before .before .before .before .before .before .enum-told .given .1) (c .before .before .before .before .before .before .if1 .left) (c .before .before .before .before .before .read-short .result) _ (c .before .before .before .before .before .read-short .ensures (length (now (s .args .main))) (length (now (s .args .ports)))) (c .before .before .before .short .given .0 .0) (c .before .before .before .short .given .0 .1 .0) (c .before .before .before .short .given .1) (c .before .flagged .ensures)
 
 enum-known-short-2 : tie.Need-enum-known-short-2
 enum-known-short-2 c = search needs
@@ -68,7 +68,7 @@ returns-4 : tie.Need-returns-4
 returns-4 c =
     let s = c .before .before .before .before .before .before .before .before .before .before .before .before .before in
     ap (λ (o : Outcome). told o (now (s .args .main)) (now (s .args .ports)) (now (s .args .trail))) (c .answered4 .ensures)
-    ∙ a-back (s .args .m) (now (s .args .main)) (now (s .args .ports)) (now (s .args .trail)) (s .args .used) (c .before .before .before .before .before .before .before .before .before .judge .result) (c .before .before .before .before .before .before .before .before .before .judge .ensures) (c .before .before .before .before .before .before .before .enum-told .given .1) (c .before .before .before .before .before .before .if1 .left) (c .before .before .before .before .before .read-short .result) (c .before .before .before .before .before .read-short .ensures (length (now (s .args .main))) (length (now (s .args .ports)))) (c .before .before .before .short2 .given .0 .0) (c .before .before .before .short2 .given .0 .1 .0) (c .before .before .before .short2 .given .1) (c .before .flagged2 .ensures)
+    ∙ a-back (s .args .m) (now (s .args .main)) (now (s .args .ports)) (now (s .args .trail)) (s .args .used) (c .before .before .before .before .before .before .before .before .before .judge .result) (c .before .before .before .before .before .before .before .before .before .judge .ensures) (c .before .before .before .before .before .before .before .enum-told .given .1) (c .before .before .before .before .before .before .if1 .left) (c .before .before .before .before .before .read-short .result) _ (c .before .before .before .before .before .read-short .ensures (length (now (s .args .main))) (length (now (s .args .ports)))) (c .before .before .before .short2 .given .0 .0) (c .before .before .before .short2 .given .0 .1 .0) (c .before .before .before .short2 .given .1) (c .before .flagged2 .ensures)
 
 enum-known-short-3 : tie.Need-enum-known-short-3
 enum-known-short-3 c = search needs
@@ -83,7 +83,7 @@ returns-5 : tie.Need-returns-5
 returns-5 c =
     let s = c .before .before .before .before .before .before .before .before .before .before .before .before .before in
     ap (λ (o : Outcome). told o (now (s .args .main)) (now (s .args .ports)) (now (s .args .trail))) (c .answered5 .ensures)
-    ∙ x-back (s .args .m) (now (s .args .main)) (now (s .args .ports)) (now (s .args .trail)) (s .args .used) (c .before .before .before .before .before .before .before .before .before .judge .result) (c .before .before .before .before .before .before .before .before .before .judge .ensures) (c .before .before .before .before .before .before .before .enum-told .given .1) (c .before .before .before .before .before .before .if1 .left) (c .before .before .before .before .before .read-short .result) (c .before .before .before .before .before .read-short .ensures (length (now (s .args .main))) (length (now (s .args .ports)))) (c .before .before .before .short3 .given .0 .0) (c .before .before .before .short3 .given .0 .1 .0) (c .before .before .before .short3 .given .1) (c .before .flagged3 .ensures)
+    ∙ x-back (s .args .m) (now (s .args .main)) (now (s .args .ports)) (now (s .args .trail)) (s .args .used) (c .before .before .before .before .before .before .before .before .before .judge .result) (c .before .before .before .before .before .before .before .before .before .judge .ensures) (c .before .before .before .before .before .before .before .enum-told .given .1) (c .before .before .before .before .before .before .if1 .left) (c .before .before .before .before .before .read-short .result) _ (c .before .before .before .before .before .read-short .ensures (length (now (s .args .main))) (length (now (s .args .ports)))) (c .before .before .before .short3 .given .0 .0) (c .before .before .before .short3 .given .0 .1 .0) (c .before .before .before .short3 .given .1) (c .before .flagged3 .ensures)
 
 enum-known-short-4 : tie.Need-enum-known-short-4
 enum-known-short-4 c = search needs
@@ -98,7 +98,7 @@ returns-6 : tie.Need-returns-6
 returns-6 c =
     let s = c .before .before .before .before .before .before .before .before .before .before .before .before .before in
     ap (λ (o : Outcome). told o (now (s .args .main)) (now (s .args .ports)) (now (s .args .trail))) (c .answered6 .ensures)
-    ∙ y-back (s .args .m) (now (s .args .main)) (now (s .args .ports)) (now (s .args .trail)) (s .args .used) (c .before .before .before .before .before .before .before .before .before .judge .result) (c .before .before .before .before .before .before .before .before .before .judge .ensures) (c .before .before .before .before .before .before .before .enum-told .given .1) (c .before .before .before .before .before .before .if1 .left) (c .before .before .before .before .before .read-short .result) (c .before .before .before .before .before .read-short .ensures (length (now (s .args .main))) (length (now (s .args .ports)))) (c .before .before .before .short4 .given .0 .0) (c .before .before .before .short4 .given .0 .1 .0) (c .before .before .before .short4 .given .1) (c .before .flagged4 .ensures)
+    ∙ y-back (s .args .m) (now (s .args .main)) (now (s .args .ports)) (now (s .args .trail)) (s .args .used) (c .before .before .before .before .before .before .before .before .before .judge .result) (c .before .before .before .before .before .before .before .before .before .judge .ensures) (c .before .before .before .before .before .before .before .enum-told .given .1) (c .before .before .before .before .before .before .if1 .left) (c .before .before .before .before .before .read-short .result) _ (c .before .before .before .before .before .read-short .ensures (length (now (s .args .main))) (length (now (s .args .ports)))) (c .before .before .before .short4 .given .0 .0) (c .before .before .before .short4 .given .0 .1 .0) (c .before .before .before .short4 .given .1) (c .before .flagged4 .ensures)
 
 enum-told-2 : tie.Need-enum-told-2
 enum-told-2 c = search needs
@@ -110,7 +110,7 @@ returns-7 : tie.Need-returns-7
 returns-7 c =
     let s = c .before .before .before .before .before .before .before .before .before .before .before in
     ap (λ (o : Outcome). told o (now (s .args .main)) (now (s .args .ports)) (now (s .args .trail))) (c .answered7 .ensures)
-    ∙ short-broken (s .args .m) (now (s .args .main)) (now (s .args .ports)) (now (s .args .trail)) (s .args .used) (c .before .before .before .before .before .before .before .judge .result) (c .before .before .before .before .before .before .before .judge .ensures) (c .before .before .before .before .before .enum-told .given .1) (c .before .before .before .before .if1 .left) (c .before .before .before .read-short .result) (c .before .before .before .read-short .ensures (length (now (s .args .main))) (length (now (s .args .ports)))) (c .before .enum-told2 .given .1)
+    ∙ short-broken (s .args .m) (now (s .args .main)) (now (s .args .ports)) (now (s .args .trail)) (s .args .used) (c .before .before .before .before .before .before .before .judge .result) (c .before .before .before .before .before .before .before .judge .ensures) (c .before .before .before .before .before .enum-told .given .1) (c .before .before .before .before .if1 .left) (c .before .before .before .read-short .result) _ (c .before .before .before .read-short .ensures (length (now (s .args .main))) (length (now (s .args .ports)))) (c .before .enum-told2 .given .1)
 
 enum-told-3 : tie.Need-enum-told-3
 enum-told-3 c = search needs
