@@ -320,7 +320,7 @@ module _ (g : List ℕ) (p : ℕ) (b : Bool) (main ports : List ℕ) (f : Fields
       unfolding operands-of
       functions-told {v} h = go (eqb (f .fsf) 12) refl (eqb (f .fsf) 2) (sym e ∙ h)
         where
-          go : (t : Bool) → eqb (f .fsf) 12 ≡ t → (u : Bool) → cond t (operand.Held 0) (cond u (constant-or f at ports) (constant-or f at main)) ≡ operand.Held v
+          go : (t : Bool) → eqb (f .fsf) 12 ≡ t → (u : Bool) → cond t (operand.Held 0) (constant-or f at (cond u ports main)) ≡ operand.Held v
               → (eqb (f .fsf) 12 ≡ false → bad at ≡ false) × (cond t (Held r 0) (cond u (constant-or-word f ports at r) (constant-or-word f main at r)) ≡ Held r v)
           go true y u q = (λ n. absurd (true≢false (sym y ∙ n)), cc)
           go false y true q = let d = held-told ports refl q in (λ n. d .0, d .1)
@@ -337,7 +337,7 @@ module _ (g : List ℕ) (p : ℕ) (b : Bool) (main ports : List ℕ) (f : Fields
       unfolding decided
       computes-bad h z = halts-once (rw (not-top, lt-leb 7 class below, le-leb 4 class from) (go (eqb (f .fsf) 12) (eqb (f .fsf) 2) (sym e ∙ h))) z
         where
-          go : (t u : Bool) → cond t (operand.Held 0) (cond u (constant-or f at ports) (constant-or f at main)) ≡ operand.Bad → cond (bad at) (cond t computes halts) computes ≡ halts
+          go : (t u : Bool) → cond t (operand.Held 0) (constant-or f at (cond u ports main)) ≡ operand.Bad → cond (bad at) (cond t computes halts) computes ≡ halts
           go true u q = let n : _≡_ {A = ℕ} 0 1 = cc in absurd (omega arith)
           go false true q = rw (bad-told ports refl q)
           go false false q = rw (bad-told main refl q)
@@ -346,7 +346,7 @@ module _ (g : List ℕ) (p : ℕ) (b : Bool) (main ports : List ℕ) (f : Fields
       unfolding operands-of
       computes-lacking h = let d = go (eqb (f .fsf) 12) (eqb (f .fsf) 2) (sym e ∙ h) in lacking-once computes (computes-by (λ n. d .0)) (d .1)
         where
-          go : (t u : Bool) → cond t (operand.Held 0) (cond u (constant-or f at ports) (constant-or f at main)) ≡ operand.Unfitted
+          go : (t u : Bool) → cond t (operand.Held 0) (constant-or f at (cond u ports main)) ≡ operand.Unfitted
               → (bad at ≡ false) × (cond t (Held r 0) (cond u (constant-or-word f ports at r) (constant-or-word f main at r)) ≡ Unfitted)
           go true u q = let n : _≡_ {A = ℕ} 0 1 = cc in absurd (omega arith)
           go false true q = lacking-told ports refl q

@@ -58,9 +58,9 @@ read-from store at = cond (ltb at (length store)) (operand.Held (getD store at 0
 abbrev pub constant-or : Fields → ℕ → List ℕ → Operand
 constant-or f at store = cond (eqb (f .msf) 0) (operand.Held (f .addr)) (cond (parts.bad at) operand.Bad (read-from store at))
 
--- A shift has no M.
+-- A shift has no M, and function 2 reads a port.
 abbrev pub operand-of : Fields → ℕ → List ℕ → List ℕ → Operand
-operand-of f at main ports = cond (eqb (f .fsf) 12) (operand.Held 0) (cond (eqb (f .fsf) 2) (constant-or f at ports) (constant-or f at main))
+operand-of f at main ports = cond (eqb (f .fsf) 12) (operand.Held 0) (constant-or f at (cond (eqb (f .fsf) 2) ports main))
 
 -- R and M, once the word that is to be read or written is known to be fitted.
 pub data Operands : Type 0 where

@@ -13,7 +13,7 @@ use machine::MainAddress;
 use machine::Place;
 use machine::PortNumber;
 ghost use mathlib.Core.Path.{_≡_};
-ghost use mathlib.Core.Bool.{false};
+ghost use mathlib.Core.Bool.{false, cond};
 ghost use Prim.Native.Nat.{_≤_, _<_, _^_};
 ghost use lib.Dec.{eqb};
 ghost use lib.ListN.{length, getD};
@@ -59,10 +59,16 @@ fn read(store: &[u32], at: u32) -> Operand
     Operand::Unfitted
 }
 
-// M: the constant addr where msf is 0, else the word of a store.
-fn constant_or_read(f: Fields, sources: &[u32; 4], store: &[u32]) -> Operand
+// M: the constant addr where msf is 0, else a word, of the ports or of main. Which of them is asked last: a constant has no store.
+fn constant_or_read(
+    f: Fields,
+    port: bool,
+    sources: &[u32; 4],
+    main: &[u32],
+    ports: &[u32],
+) -> Operand
     requires { ⌜ (f .msf < 4) × (f .addr < 2 ^ 20) × (getD (now sources) 1 0 < 2 ^ 32) × (getD (now sources) 2 0 < 2 ^ 32) ⌝ }
-    ensures { λ o. ⌜ o ≡ constant-or f (address-of (f .msf) (f .addr) (now (sources .entry))) (now (store .entry)) ⌝ }
+    ensures { λ o. ⌜ o ≡ constant-or f (address-of (f .msf) (f .addr) (now (sources .entry))) (cond port (now (ports .entry)) (now (main .entry))) ⌝ }
 {
     if f.msf == 0 {
         return Operand::Held(f.addr);
@@ -71,7 +77,10 @@ fn constant_or_read(f: Fields, sources: &[u32; 4], store: &[u32]) -> Operand
     if at > 0xF_FFFF {
         return Operand::Bad;
     }
-    read(store, at)
+    if port {
+        return read(ports, at);
+    }
+    read(main, at)
 }
 
 // M of a function for A, X or Y: a shift has none, and function 2 reads a port.
@@ -82,10 +91,7 @@ fn operand_of(f: Fields, sources: &[u32; 4], main: &[u32], ports: &[u32]) -> Ope
     if f.fsf == 12 {
         return Operand::Held(0);
     }
-    if f.fsf == 2 {
-        return constant_or_read(f, sources, ports);
-    }
-    constant_or_read(f, sources, main)
+    constant_or_read(f, f.fsf == 2, sources, main, ports)
 }
 
 // The place that a write goes to: class 3 writes to a port.
@@ -141,7 +147,7 @@ fn deliver(
         if (class == 9) & b {
             return finish_flags(p, b, next, b, false, trail, used);
         }
-        let o = constant_or_read(f, sources, main);
+        let o = constant_or_read(f, false, sources, main, ports);
         match o {
             Operand::Held(v) => {
                 let t = word::alu_jump(f.fsf, r, v, b);
@@ -218,7 +224,7 @@ pub fn step_once(
     if class < 4 {
         // A comparison, a word that always halts, or a write: no register changes.
         if class == 0 {
-            let o = constant_or_read(f, sources, main);
+            let o = constant_or_read(f, false, sources, main, ports);
             match o {
                 Operand::Held(v) => {
                     let test = word::compare(f.fsf, r, v, b);

@@ -1,4 +1,4 @@
--- The tests are the definition's, in its order.
+-- The tests are the definition's, in its order; of a bad address no store is asked.
 use Prim.Native.Nat.{_^_}
 use native.Mathlib.Omega.{arith}
 use borrow.Author.Tests.{eq-eqb, ne-eqb, le-leb, lt-leb}
@@ -19,8 +19,19 @@ read-requires : tie.Need-read-requires
 read-requires c κs = search needs
 
 returns-3 : tie.Need-returns-3
-returns-3 c = rw (ne-eqb _ 0 (c .before .before .before .if1 .left), ← c .before .before .address .ensures, lt-leb (2 ^ 20) (c .before .before .address .result) (omega (arith, c .before .if2 .left))) (c .read .ensures)
+returns-3 c =
+    let q = c .before .before in
+    rw (ne-eqb _ 0 (q .before .before .if1 .left), ← q .before .address .ensures, lt-leb (2 ^ 20) (q .before .address .result) (omega (arith, q .if2 .left)), c .before .if3 .taken) (c .read .ensures)
+
+read-requires-2 : tie.Need-read-requires-2
+read-requires-2 c κs = search needs
+
+returns-4 : tie.Need-returns-4
+returns-4 c =
+    let q = c .before .before in
+    rw (ne-eqb _ 0 (q .before .before .if1 .left), ← q .before .address .ensures, lt-leb (2 ^ 20) (q .before .address .result) (omega (arith, q .if2 .left)), c .before .if3 .left) (c .read2 .ensures)
 
 pub constant-or-read-spec : {M : Type 1} → statement M
 constant-or-read-spec =
-    tie.close (tie.spec returns address-requires returns-2 read-requires returns-3)
+    tie.close
+    (tie.spec returns address-requires returns-2 read-requires returns-3 read-requires-2 returns-4)

@@ -11,15 +11,7 @@ constant-or-read-requires : tie.Need-constant-or-read-requires
 constant-or-read-requires c κs = search needs
 
 returns-2 : tie.Need-returns-2
-returns-2 c = rw (ne-eqb _ 12 (c .before .before .before .if1 .left), eq-eqb _ 2 (c .before .if2 .taken)) (c .constant-or-read .ensures)
-
-constant-or-read-requires-2 : tie.Need-constant-or-read-requires-2
-constant-or-read-requires-2 c κs = search needs
-
-returns-3 : tie.Need-returns-3
-returns-3 c = rw (ne-eqb _ 12 (c .before .before .before .if1 .left), ne-eqb _ 2 (c .before .if2 .left)) (c .constant-or-read2 .ensures)
+returns-2 c = rw (ne-eqb _ 12 (c .before .before .if1 .left)) (c .constant-or-read .ensures)
 
 pub operand-of-spec : {M : Type 1} → statement M
-operand-of-spec =
-    tie.close
-    (tie.spec returns constant-or-read-requires returns-2 constant-or-read-requires-2 returns-3)
+operand-of-spec = tie.close (tie.spec returns constant-or-read-requires returns-2)

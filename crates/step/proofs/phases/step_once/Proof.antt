@@ -115,7 +115,7 @@ register-requires c κs =
 
 constant-or-read-requires : tie.Need-constant-or-read-requires
 constant-or-read-requires c κs =
-    let q = c .before .before .before .before in
+    let q = c .before .before .before .before .before in
     let s = start q in
     let a = s .args in
     let main = now (a .main) in
@@ -130,7 +130,7 @@ compare-requires c κs = search needs
 
 finish-flags-requires-2 : tie.Need-finish-flags-requires-2
 finish-flags-requires-2 c κs =
-    let s = c .before .before .before .before .before .before .before .before .before .before .before .before .before .before .before .before .before .before .before .before .before .before .before in (s .pre .1 .0 .0 .p-lt, s .pre .1 .0 .0 .used-le)
+    let s = start (c .before .before .before .before .before .before .before .before .before .before .before) in (s .pre .1 .0 .0 .p-lt, s .pre .1 .0 .0 .used-le)
 
 same-length-4 : tie.Need-same-length-4
 same-length-4 c = search needs
@@ -138,15 +138,18 @@ same-length-4 c = search needs
 same-length-5 : tie.Need-same-length-5
 same-length-5 c = search needs
 
+same-length-6 : tie.Need-same-length-6
+same-length-6 c = search needs
+
 returns-3 : tie.Need-returns-3
 returns-3 c =
-    let q = c .before .before .before .before .before .before .before .before .before .before .before .before .before in
+    let q = c .before .before .before .before .before .before .before .before .before .before .before .before .before .before in
     let s = start q in
     let a = s .args in
     let main = now (a .main) in
     let ports = now (a .ports) in (
       kept-before (c .before .before .finish-flags2 .result) (now (a .sources)) (sources q) (a .p + 1) (kept-same (c .before .before .finish-flags2 .result) (sources q)),
-      compares-held (sources q) (a .p) (a .b) main ports (q .before .before .take-apart .result) (q .before .before .before .class-of .result) (q .register .result) (in-range q) (decodes q) (now (a .trail)) (a .used) (c .before .before .before .before .before .before .before .before .before .before .before .if3 .taken) (c .before .before .before .before .before .before .before .before .constant-or-read .ensures) (c .before .before .before .before .before .before .o .given .1) (c .before .before .before .before .compare .ensures) (c .before .before .finish-flags2 .ensures (ram main ports) (sources q))
+      compares-held (sources q) (a .p) (a .b) main ports (q .before .before .take-apart .result) (q .before .before .before .class-of .result) (q .register .result) (in-range q) (decodes q) (now (a .trail)) (a .used) (c .before .before .before .before .before .before .before .before .before .before .before .before .if3 .taken) (c .before .before .before .before .before .before .before .before .constant-or-read .ensures) (c .before .before .before .before .before .before .o .given .1) (c .before .before .before .before .compare .ensures) (c .before .before .finish-flags2 .ensures (ram main ports) (sources q))
           ∙ ap (λ (m : Machine). once m (ram main ports) (now (a .trail)) (a .used)) (fourth (now (a .sources)) (a .p + 1) (a .p) (a .b) false),
     )
 
@@ -154,52 +157,59 @@ enum-told-2 : tie.Need-enum-told-2
 enum-told-2 c = search needs
 
 finish-flags-requires-3 : tie.Need-finish-flags-requires-3
-finish-flags-requires-3 c κs = search needs
-
-same-length-6 : tie.Need-same-length-6
-same-length-6 c = search needs
+finish-flags-requires-3 c κs =
+    let s = start (c .before .before .before .before .before .before .before .before .before) in (s .pre .1 .0 .0 .p-lt, s .pre .1 .0 .0 .used-le)
 
 same-length-7 : tie.Need-same-length-7
 same-length-7 c = search needs
 
+same-length-8 : tie.Need-same-length-8
+same-length-8 c = search needs
+
+same-length-9 : tie.Need-same-length-9
+same-length-9 c = search needs
+
 returns-4 : tie.Need-returns-4
 returns-4 c =
-    let q = c .before .before .before .before .before .before .before .before .before .before .before in
+    let q = c .before .before .before .before .before .before .before .before .before .before .before .before in
     let s = start q in
     let a = s .args in
     let main = now (a .main) in
     let ports = now (a .ports) in (
       kept-before (c .before .before .finish-flags3 .result) (now (a .sources)) (sources q) (a .p + 1) (kept-same (c .before .before .finish-flags3 .result) (sources q)),
-      compares-bad (sources q) (a .p) (a .b) main ports (q .before .before .take-apart .result) (q .before .before .before .class-of .result) (q .register .result) (in-range q) (decodes q) (now (a .trail)) (a .used) (c .before .before .before .before .before .before .before .before .before .if3 .taken) (c .before .before .before .before .before .before .constant-or-read .ensures) (c .before .before .before .before .enum-told2 .given .1) (c .before .before .finish-flags3 .ensures (ram main ports) (sources q))
+      compares-bad (sources q) (a .p) (a .b) main ports (q .before .before .take-apart .result) (q .before .before .before .class-of .result) (q .register .result) (in-range q) (decodes q) (now (a .trail)) (a .used) (c .before .before .before .before .before .before .before .before .before .before .if3 .taken) (c .before .before .before .before .before .before .constant-or-read .ensures) (c .before .before .before .before .enum-told2 .given .1) (c .before .before .finish-flags3 .ensures (ram main ports) (sources q))
           ∙ ap (λ (m : Machine). once m (ram main ports) (now (a .trail)) (a .used)) (fourth (now (a .sources)) (a .p + 1) (a .p) (a .b) false),
     )
 
 enum-told-3 : tie.Need-enum-told-3
 enum-told-3 c = search needs
 
-same-length-8 : tie.Need-same-length-8
-same-length-8 c = search needs
+same-length-10 : tie.Need-same-length-10
+same-length-10 c = search needs
+
+same-length-11 : tie.Need-same-length-11
+same-length-11 c = search needs
 
 returns-5 : tie.Need-returns-5
 returns-5 c =
-    let q = c .before .before .before .before .before .before .before in
+    let q = c .before .before .before .before .before .before .before .before in
     let s = start q in
     let a = s .args in
     let main = now (a .main) in
     let ports = now (a .ports) in (
       sym (fourth (now (a .sources)) (a .p + 1) 0 false false),
-      compares-lacking (sources q) (a .p) (a .b) main ports (q .before .before .take-apart .result) (q .before .before .before .class-of .result) (q .register .result) (in-range q) (decodes q) (now (a .trail)) (a .used) (c .before .before .before .before .before .if3 .taken) (c .before .before .constant-or-read .ensures) (c .enum-told3 .given .1)
+      compares-lacking (sources q) (a .p) (a .b) main ports (q .before .before .take-apart .result) (q .before .before .before .class-of .result) (q .register .result) (in-range q) (decodes q) (now (a .trail)) (a .used) (c .before .before .before .before .before .before .if3 .taken) (c .before .before .constant-or-read .ensures) (c .enum-told3 .given .1)
           ∙ ap (λ (m : Machine). once m (ram main ports) (now (a .trail)) (a .used)) (fourth (now (a .sources)) (a .p + 1) (a .p) (a .b) false),
     )
 
 finish-flags-requires-4 : tie.Need-finish-flags-requires-4
 finish-flags-requires-4 c κs = search needs
 
-same-length-9 : tie.Need-same-length-9
-same-length-9 c = search needs
+same-length-12 : tie.Need-same-length-12
+same-length-12 c = search needs
 
-same-length-10 : tie.Need-same-length-10
-same-length-10 c = search needs
+same-length-13 : tie.Need-same-length-13
+same-length-13 c = search needs
 
 returns-6 : tie.Need-returns-6
 returns-6 c =
@@ -225,11 +235,11 @@ address-requires c κs =
 finish-flags-requires-5 : tie.Need-finish-flags-requires-5
 finish-flags-requires-5 c κs = search needs
 
-same-length-11 : tie.Need-same-length-11
-same-length-11 c = search needs
+same-length-14 : tie.Need-same-length-14
+same-length-14 c = search needs
 
-same-length-12 : tie.Need-same-length-12
-same-length-12 c = search needs
+same-length-15 : tie.Need-same-length-15
+same-length-15 c = search needs
 
 returns-7 : tie.Need-returns-7
 returns-7 c =
@@ -249,11 +259,11 @@ place-of-requires c κs = search needs
 is-fitted-requires : tie.Need-is-fitted-requires
 is-fitted-requires c κs = search needs
 
-same-length-13 : tie.Need-same-length-13
-same-length-13 c = search needs
+same-length-16 : tie.Need-same-length-16
+same-length-16 c = search needs
 
-same-length-14 : tie.Need-same-length-14
-same-length-14 c = search needs
+same-length-17 : tie.Need-same-length-17
+same-length-17 c = search needs
 
 returns-8 : tie.Need-returns-8
 returns-8 c =
@@ -276,14 +286,14 @@ finish-word-requires c κs =
     let has = sym (c .before .before .before .before .is-fitted .ensures) ∙ not-false _ (c .before .before .before .if6 .left) in
     ((s .pre .1 .0 .0 .p-lt, s .pre .1 .0 .0 .used-le), record { has = has; low = fitted-low (ram main ports) (where-of q) (s .pre .1 .0 .0 .main-le) (s .pre .1 .0 .0 .ports-le) has })
 
-same-length-15 : tie.Need-same-length-15
-same-length-15 c = search needs
+same-length-18 : tie.Need-same-length-18
+same-length-18 c = search needs
 
-same-length-16 : tie.Need-same-length-16
-same-length-16 c = search needs
+same-length-19 : tie.Need-same-length-19
+same-length-19 c = search needs
 
-same-length-17 : tie.Need-same-length-17
-same-length-17 c = search needs
+same-length-20 : tie.Need-same-length-20
+same-length-20 c = search needs
 
 returns-9 : tie.Need-returns-9
 returns-9 c =
@@ -306,14 +316,14 @@ deliver-requires c κs =
     let ports = now (a .ports) in
     ((s .pre .1 .0 .0, sized q), (in-range q, (decodes q, c .before .before .before .before .if2 .left)))
 
-same-length-18 : tie.Need-same-length-18
-same-length-18 c = search needs
+same-length-21 : tie.Need-same-length-21
+same-length-21 c = search needs
 
-same-length-19 : tie.Need-same-length-19
-same-length-19 c = search needs
+same-length-22 : tie.Need-same-length-22
+same-length-22 c = search needs
 
-same-length-20 : tie.Need-same-length-20
-same-length-20 c = search needs
+same-length-23 : tie.Need-same-length-23
+same-length-23 c = search needs
 
 returns-10 : tie.Need-returns-10
 returns-10 c =
@@ -349,36 +359,39 @@ step-once-spec =
     finish-flags-requires-2
     same-length-4
     same-length-5
+    same-length-6
     returns-3
     enum-told-2
     finish-flags-requires-3
-    same-length-6
     same-length-7
+    same-length-8
+    same-length-9
     returns-4
     enum-told-3
-    same-length-8
+    same-length-10
+    same-length-11
     returns-5
     finish-flags-requires-4
-    same-length-9
-    same-length-10
+    same-length-12
+    same-length-13
     returns-6
     address-requires
     finish-flags-requires-5
-    same-length-11
-    same-length-12
+    same-length-14
+    same-length-15
     returns-7
     place-of-requires
     is-fitted-requires
-    same-length-13
-    same-length-14
-    returns-8
-    finish-word-requires
-    same-length-15
     same-length-16
     same-length-17
-    returns-9
-    deliver-requires
+    returns-8
+    finish-word-requires
     same-length-18
     same-length-19
     same-length-20
+    returns-9
+    deliver-requires
+    same-length-21
+    same-length-22
+    same-length-23
     returns-10)
