@@ -71,6 +71,11 @@ read-last : (s : List ℕ) (end : ℕ) → end ≤ length s → (k next : ℕ) �
 read-last s end fits k next h l =
     rw (slice-cons next end s 0 h fits, read-one k (getD s next 0) (slice (suc next) end s) l, add-one)
 
+-- A last group of 0, or a number that is not below the bound.
+last-broken : (end bound low n : ℕ) (rest : List ℕ) → (0 < n → bound ≤ low + 128 * n) → Broken ≡ number-of end (below bound (over low (got n rest)))
+last-broken end bound low zero rest q = refl
+last-broken end bound low (suc n) rest q = rw (ne-eqb (suc n) 0 (omega arith), le-ltb (low + 128 * suc n) bound (q (omega arith)))
+
 -- ---- the first groups
 
 module _ (s : List ℕ) (at end bound : ℕ) (fits : end ≤ length s) where
@@ -102,6 +107,16 @@ module _ (s : List ℕ) (at end bound : ℕ) (fits : end ≤ length s) where
       let place : end - length r ≡ at + 2 = place-left s (at + 1 + 1) end (omega arith) fits ∙ omega arith in
       let two : number-of end (below bound (over m (got n r))) ≡ Got (m + 128 * n) (at + 2) = rw (ne-eqb n 0 (omega arith), lt-ltb (m + 128 * n) bound q, place) in
       sym two
+      ∙ ap (λ (x : Read). number-of end (below bound (over m x))) (sym (read-last s end fits 3 (at + 1) h c))
+      ∙ more-groups (omega arith) l b
+
+  -- The second group is the last, and it is 0 or the number is not below the bound.
+  pub two-broken : at + 1 < end → 128 ≤ getD s at 0 → getD s at 0 < 256 → getD s (at + 1) 0 < 128
+      → (0 < getD s (at + 1) 0 → bound ≤ getD s at 0 - 128 + 128 * getD s (at + 1) 0)
+      → Broken ≡ number-of end (read-below bound (slice at end s))
+  two-broken h l b c q =
+      let m = getD s at 0 - 128 in
+      last-broken end bound m (getD s (at + 1) 0) (slice (at + 1 + 1) end s) q
       ∙ ap (λ (x : Read). number-of end (below bound (over m x))) (sym (read-last s end fits 3 (at + 1) h c))
       ∙ more-groups (omega arith) l b
 

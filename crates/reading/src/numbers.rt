@@ -34,13 +34,17 @@ pub(crate) fn number_at(bytes: &[u8], at: usize, end: usize, bound: u64) -> Numb
     if at + 1 < end {
         // Two groups or three, the most common numbers after one: no loop.
         let c = bytes[at + 1] as u64;
-        let n = b - 128 + 128 * c;
-        if (0 < c) & (c < 128) & (n < bound) {
-            return Number::Got(n as u32, at + 2);
+        if c < 128 {
+            let n = b % 128 + 128 * c;
+            if (0 < c) & (n < bound) {
+                return Number::Got(n as u32, at + 2);
+            }
+            // A group too many, or too large.
+            return Number::Broken;
         }
-        if (at + 2 < end) & (c >= 128) {
+        if at + 2 < end {
             let d = bytes[at + 2] as u64;
-            let n = b - 128 + 128 * (c - 128) + 16_384 * d;
+            let n = b % 128 + 128 * (c % 128) + 16_384 * d;
             if (0 < d) & (d < 128) & (n < bound) {
                 return Number::Got(n as u32, at + 3);
             }

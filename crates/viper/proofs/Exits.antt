@@ -33,7 +33,7 @@ use Rattle.step.specs.Phases.{step-unfitted}
 use Rattle.report.proofs.Stores.{fitted-low}
 use Rattle.viper.proofs.Viewing.{view-one}
 use Rattle.viper.specs.Operations.{Bench, Operation, step, reset, force, set-word, operate, run, back, Call, lends-stores, next, applies, answer, record-for, done, broken, newest-of, outcome}
-use Rattle.viper.specs.TakingBack.{back-outcome}
+use Rattle.viper.specs.TakingBack.{put-back, back-outcome}
 use Rattle.viper.specs.Runs.{Ran, over-and-over, run-outcome}
 use Rattle.step.specs.Phases as write
 use Rattle.viper.specs.Views.{view-fitted}
@@ -285,7 +285,7 @@ module _ (m : Machine) (main ports trail : List ℕ) (used : ℕ) (q : Place) (v
 
 -- ---- take back
 
-restored-parts : (o : OldValues) (m : Machine) (main ports : List ℕ) (m′ : Machine) (r : Mem) → m′ ≡ machine-of (restored o (state m (ram main ports))) → r ≡ stores-restored o (ram main ports)
+pub restored-parts : (o : OldValues) (m : Machine) (main ports : List ℕ) (m′ : Machine) (r : Mem) → m′ ≡ machine-of (restored o (state m (ram main ports))) → r ≡ stores-restored o (ram main ports)
     → state m′ r ≡ restored o (state m (ram main ports))
 unfolding restored
 restored-parts o m main ports m′ r e f = rw (e, f)
@@ -318,13 +318,11 @@ module _ (m : Machine) (main ports trail : List ℕ) (used : ℕ) (a : Answer) (
       pub back-broken : x ≡ newest.Broken → record { answered = Refused BrokenRecord; bench = bb } ≡ back-outcome bb
       back-broken z = back-refused BrokenRecord (back-later ∙ ap (λ (y : Newest). when (broken y) BrokenRecord) z)
 
-      pub back-done : (o : OldValues) (n : ℕ) (m′ : Machine) (r : Mem) → x ≡ newest.Record o n → m′ ≡ machine-of (restored o (bb .state)) → r ≡ stores-restored o (ram main ports)
-          → record { answered = Done; bench = record { state = state m′ r; trail = trail; used = n } } ≡ back-outcome bb
-      back-done o n m′ r z e f =
+      pub back-ready : (o : OldValues) (n : ℕ) → x ≡ newest.Record o n → record { answered = Done; bench = put-back (newest.Record o n) bb } ≡ back-outcome bb
+      back-ready o n z =
           let ok : answer back bb ≡ Done = back-later ∙ ap (λ (y : Newest). when (broken y) BrokenRecord) z in
           let nw : newest-of bb ≡ newest.Record o n = sym h ∙ z in
-          let st : state m′ r ≡ restored o (bb .state) = restored-parts o m main ports m′ r e f in
-          rw (ok, nw, st)
+          rw (ok, nw)
 
     -- the word of a record that was read is fitted
     pub back-refits : (some-used : used ≡ 0 → ⊥) (x : Newest) (o : OldValues) (n : ℕ) → x ≡ newest-of bb → x ≡ newest.Record o n → Refits (ram main ports) o

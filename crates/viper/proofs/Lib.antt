@@ -2,4 +2,4 @@ pub mod Lowest
 pub mod Viewing
 pub mod Stepping
 pub mod Exits
-pub mod ShortExits
+pub mod Finding

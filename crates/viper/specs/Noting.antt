@@ -32,10 +32,6 @@ noted m after ram trail used =
     (record { state = state after ram; trail = put trail used r; used = used + length r })
     (record { state = state m ram; trail = trail; used = used })
 
--- The machine of these registers, with P and the flags of a record.
-abbrev pub flagged : ℕ → ℕ → ℕ → OldValues → Machine
-flagged a x y o = record { a = a; x = x; y = y; p = o .p; b = marked 16 (o .marks); stop = marked 32 (o .marks) }
-
 -- The stores with the word of a record put back.
 abbrev pub stores-restored : OldValues → Mem → Mem
 stores-restored o ram = cond (marked 8 (o .marks)) (with-word ram (where-of-number (o .place)) (o .value)) ram

@@ -1,5 +1,7 @@
 // The public calls. Each is its refusals in the order of their numbers, and then one function that does the work (document 01).
 use crate::Answer;
+use crate::Found;
+use crate::Marked;
 use crate::Outcome;
 use crate::Refusal;
 use crate::RunAnswer;
@@ -27,10 +29,10 @@ ghost use Prim.Native.Nat.{ℕ, _<_};
 ghost use lib.ListN.{length};
 ghost use Rattle.machine.specs.Held.{ram, state, machine-of};
 ghost use Rattle.trail.specs.Records.{restored};
-ghost use Rattle.viper.specs.Noting.{noted, flagged as flagged·of, stores-restored, Refits};
+ghost use Rattle.viper.specs.Noting.{noted, stores-restored, Refits};
 ghost use Rattle.viper.specs.Operations.{reset as reset·op, force as force·op, step as step·op, set-word, outcome};
 ghost use Rattle.viper.specs.Runs.{over-and-over, run-outcome};
-ghost use Rattle.viper.specs.TakingBack.{back-outcome};
+ghost use Rattle.viper.specs.TakingBack.{back-outcome, Finds};
 ghost use Rattle.viper.specs.Told.{bench, told, run-told};
 ghost use Rattle.viper.specs.declared.Answer.the-variants.{Refused};
 ghost use Rattle.step.specs.Lawful.{Lawful};
@@ -327,7 +329,7 @@ fn machine_restored(o: OldValues, m: Machine) -> Machine
 }
 
 // Puts back the word of a record that marks one.
-fn word_restored(o: OldValues, main: &mut [u32], ports: &mut [u32])
+pub fn word_restored(o: OldValues, main: &mut [u32], ports: &mut [u32])
     requires { ⌜ Refits (ram (now main) (now ports)) o ⌝ }
     ensures { λ _. ⌜ ram (now (main .exit)) (now (ports .exit)) ≡ stores-restored o (ram (now (main .entry)) (now (ports .entry))) ⌝ }
 {
@@ -345,28 +347,42 @@ fn word_restored(o: OldValues, main: &mut [u32], ports: &mut [u32])
     }
 }
 
-// The machine of these registers, with P and the flags of a record.
-fn flagged(a: u32, x: u32, y: u32, o: OldValues) -> Machine
-    ensures { λ r. ⌜ r ≡ flagged·of a x y o ⌝ }
+// What there is to take back. The machine is asked for its P alone, and nothing is written: who has the machine in another form puts it back there.
+pub fn find(m: Machine, main: &[u32], ports: &[u32], trail: &[u8], used: usize) -> Found
+    ensures { λ r. ⌜ Finds r (bench m (now (main .entry)) (now (ports .entry)) (now (trail .entry)) used) ⌝ }
 {
-    Machine {
-        a,
-        x,
-        y,
-        p: o.p,
-        b: o.marks / 16 % 2 == 1,
-        stop: o.marks / 32 % 2 == 1,
+    let first = judge(m.p, main.len(), ports.len(), trail.len(), used);
+    if let Answer::Refused(r) = first {
+        return Found::Refused(r);
     }
-}
-
-// What take back came to. Made in one place of its own, so that the compiler keeps it in registers, whichever way out it leaves by.
-fn answered(machine: Machine, used: usize, answer: Answer) -> Outcome
-    ensures { λ r. ⌜ r ≡ record { machine = machine; used = used; answer = answer } ⌝ }
-{
-    Outcome {
-        machine,
-        used,
-        answer,
+    if used == 0 {
+        return Found::Refused(Refusal::NothingInUse);
+    }
+    // A short record marks no word, and at most one register.
+    let short = reading::read_short(trail, used);
+    match short {
+        ShortRecord::Kept(o, left) => {
+            return Found::Record(Marked::Nothing, o, left);
+        }
+        ShortRecord::A(o, left) => {
+            return Found::Record(Marked::A, o, left);
+        }
+        ShortRecord::X(o, left) => {
+            return Found::Record(Marked::X, o, left);
+        }
+        ShortRecord::Y(o, left) => {
+            return Found::Record(Marked::Y, o, left);
+        }
+        ShortRecord::Broken => {
+            return Found::Refused(Refusal::BrokenRecord);
+        }
+        ShortRecord::Longer => {
+            let Newest::Record(o, left) = reading::newest(trail, used, main.len(), ports.len())
+            else {
+                return Found::Refused(Refusal::BrokenRecord);
+            };
+            return Found::Record(Marked::Any, o, left);
+        }
     }
 }
 
@@ -380,38 +396,18 @@ pub fn take_back(
 ) -> Outcome
     ensures { λ r. ⌜ told r (now (main .exit)) (now (ports .exit)) (now (trail .entry)) ≡ back-outcome (bench m (now (main .entry)) (now (ports .entry)) (now (trail .entry)) used) ⌝ }
 {
-    let first = judge(m.p, main.len(), ports.len(), trail.len(), used);
-    if let Answer::Refused(r) = first {
-        return answered(m, used, Answer::Refused(r));
-    }
-    if used == 0 {
-        return answered(m, used, Answer::Refused(Refusal::NothingInUse));
-    }
-    // A short record marks no word, and at most one register.
-    let short = reading::read_short(trail, used);
-    match short {
-        ShortRecord::Kept(o, left) => {
-            return answered(flagged(m.a, m.x, m.y, o), left, Answer::Done);
+    let found = find(m, main, ports, trail, used);
+    match found {
+        Found::Refused(r) => {
+            return refuse(m, used, r);
         }
-        ShortRecord::A(o, left) => {
-            return answered(flagged(o.a, m.x, m.y, o), left, Answer::Done);
-        }
-        ShortRecord::X(o, left) => {
-            return answered(flagged(m.a, o.x, m.y, o), left, Answer::Done);
-        }
-        ShortRecord::Y(o, left) => {
-            return answered(flagged(m.a, m.x, o.y, o), left, Answer::Done);
-        }
-        ShortRecord::Broken => {
-            return answered(m, used, Answer::Refused(Refusal::BrokenRecord));
-        }
-        ShortRecord::Longer => {
-            let Newest::Record(o, left) = reading::newest(trail, used, main.len(), ports.len())
-            else {
-                return answered(m, used, Answer::Refused(Refusal::BrokenRecord));
-            };
+        Found::Record(_, o, left) => {
             word_restored(o, main, ports);
-            return answered(machine_restored(o, m), left, Answer::Done);
+            return Outcome {
+                machine: machine_restored(o, m),
+                used: left,
+                answer: Answer::Done,
+            };
         }
     }
 }

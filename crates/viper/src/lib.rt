@@ -6,6 +6,7 @@ pub mod views;
 
 use machine::Ending;
 use machine::Machine;
+use trail::OldValues;
 
 // Why a call was refused (document 01, "Numbers the counter sees"); `number` in specs/Refusals.antt gives the paper's number.
 pub enum Refusal {
@@ -41,4 +42,19 @@ pub struct RunOutcome {
     pub machine: Machine,
     pub used: usize,
     pub answer: RunAnswer,
+}
+
+// What a record is known to mark beside the flags: nothing, or A, X or Y alone. Any is said of a record whose marks have still to be asked.
+pub enum Marked {
+    Nothing,
+    A,
+    X,
+    Y,
+    Any,
+}
+
+// What there is to take back: why it is refused; or the newest record, its old values, and the count of bytes in use once it is gone.
+pub enum Found {
+    Refused(Refusal),
+    Record(Marked, OldValues, usize),
 }

@@ -12,7 +12,7 @@ ghost use Rattle.viper_c.specs.Surface.{answer-number, ending-number, ru
 ghost use Rattle.viper_c.specs.Handed.{Handed};
 
 // The number of a refusal.
-fn number_of(refusal: Refusal) -> u32
+pub(crate) fn number_of(refusal: Refusal) -> u32
     ensures { λ r. ⌜ r ≡ number refusal ⌝ }
 {
     match refusal {

@@ -2,11 +2,15 @@
 // outcome back. None has a `requires`: what C lends is refused or obeyed as document 01 says.
 mod answers;
 mod registers;
+mod restoring;
 
 use answers::hand_back;
 use answers::hand_run_back;
+use answers::number_of;
 use registers::machine_of;
 use registers::place_of;
+use restoring::put_back;
+use viper::Found;
 ghost use mathlib.Core.Path.{_≡_};
 ghost use mathlib.Core.List.{List};
 ghost use Prim.Native.Nat.{ℕ};
@@ -95,7 +99,7 @@ pub extern "C" fn viper_set(
     hand_back(o, regs, used)
 }
 
-// Takes back the newest operation on the trail. No trail byte is written.
+// Takes back the newest operation on the trail, and no more of regs is read or written than that asks for. No trail byte is written.
 #[no_mangle]
 pub extern "C" fn viper_back(
     regs: &mut [u32; 6],
@@ -108,8 +112,17 @@ pub extern "C" fn viper_back(
 {
     let m = machine_of(regs);
     let count = *used;
-    let o = viper::calls::take_back(m, main, ports, trail, count);
-    hand_back(o, regs, used)
+    let found = viper::calls::find(m, main, ports, trail, count);
+    match found {
+        Found::Refused(refusal) => {
+            return number_of(refusal);
+        }
+        Found::Record(marked, o, left) => {
+            put_back(marked, o, regs, main, ports);
+            *used = left;
+            return 0;
+        }
+    }
 }
 
 // Whether n words from an address are wholly fitted in main (store 0) or in the ports (any other store): 1 yes, 0 no.

@@ -30,7 +30,7 @@ pub(crate) fn write_back(m: Machine, count: usize, regs: &mut [u32; 6], used: &m
     *used = count;
 }
 
-fn one_or_zero(set: bool) -> u32
+pub(crate) fn one_or_zero(set: bool) -> u32
     ensures { λ r. ⌜ r ≡ one-or-zero set ⌝ }
 {
     if set { 1 } else { 0 }

@@ -1,15 +1,15 @@
 -- `number_at` meets its contract: one law for each way out, by the first three bytes.
 -- Assumes nothing.
-use Prim.Native.Nat.{ℕ, _+_, _-_, _*_, _<_, _≤_}
+use Prim.Native.Nat.{ℕ, _+_, _-_, _*_, _%_, _<_}
 use mathlib.Core.Path.{_≡_, refl}
 use native.Mathlib.Omega.{arith}
 use lib.ListN.{getD}
-use lib.Dec.{ltb, leb}
+use lib.Dec.{ltb}
 use mathlib.Core.Bool.{Bool, true, false, _&&_}
 use borrow.Author.Needs.{needs}
-use borrow.Author.Tests.{ltb-true, leb-true}
+use borrow.Author.Tests.{ltb-true, ltb-false, lt-ltb}
 use denote.Ref.{now}
-use Rattle.reading.proofs.ReadingGroups.{no-group, one-group, one-too-large, small-bound, two-groups, three-groups, more-groups}
+use Rattle.reading.proofs.ReadingGroups.{no-group, one-group, one-too-large, small-bound, two-groups, two-broken, three-groups, more-groups}
 use Rattle.reading.proofs.numbers.number_at.Statement.{statement}
 use Rattle.reading.proofs.numbers.number_at.Tie as tie
 
@@ -59,57 +59,54 @@ cast-c : tie.Need-cast-c
 cast-c c = omega (arith, c .shared-slice-known3 .given (c .before .before .before .before .before .before .before .args .at + 1))
 
 mul-n : tie.Need-mul-n
-mul-n c = omega (arith, c .shared-slice-known3 .given (c .before .before .before .before .before .before .before .args .at + 1))
+mul-n c = search needs
 
 add-n : tie.Need-add-n
-add-n c =
-    let a = c .before .before .before .before .before .before .before .args in
-    omega (arith, c .shared-slice-known3 .given (a .at + 1), c .before .before .before .before .shared-slice-known2 .given (a .at))
+add-n c = search needs
 
 both : (t u : Bool) → (t && u) ≡ true → (t ≡ true) × (u ≡ true)
 both true true e = (refl, refl)
 both true false e = let z : _≡_ {A = ℕ} 0 1 = cc in absurd (omega arith)
 both false u e = let z : _≡_ {A = ℕ} 0 1 = cc in absurd (omega arith)
 
--- The second group is the last, and the number is below the bound.
-two : (c : tie.Then6) → let a = c .before .before .before .before .before .before .before .before .args in
-    let second = getD (now (a .bytes)) (a .at + 1) 0 in
-    let n = getD (now (a .bytes)) (a .at) 0 - 128 + 128 * second in
-    (0 < second) × (second < 128) × (n < a .bound)
-two c =
-    let a = c .before .before .before .before .before .before .before .before .args in
-    let second = getD (now (a .bytes)) (a .at + 1) 0 in
-    let n = getD (now (a .bytes)) (a .at) 0 - 128 + 128 * second in
-    let t = both (ltb 0 second && ltb second 128) (ltb n (a .bound)) (c .if6 .taken) in
-    let u = both (ltb 0 second) (ltb second 128) (t .0) in
-    (ltb-true 0 second (u .0), ltb-true second 128 (u .1), ltb-true n (a .bound) (t .1))
+not-both : (t u : Bool) → (t && u) ≡ false → t ≡ true → u ≡ false
+not-both true u e h = e
+not-both false u e h = let z : _≡_ {A = ℕ} 0 1 = cc in absurd (omega arith)
 
-cast-t27 : tie.Need-cast-t27
-cast-t27 c = omega (arith, two c)
+cast-t26 : tie.Need-cast-t26
+cast-t26 c = search needs
 
-add-t28 : tie.Need-add-t28
-add-t28 c = search needs
+add-t27 : tie.Need-add-t27
+add-t27 c = search needs
 
 returns-5 : tie.Need-returns-5
 returns-5 c =
-    let a = c .before .before .before .before .before .before .before .before .args in
-    let byte = c .before .before .before .before .before .shared-slice-known2 .given (a .at) in
-    let t = two c in
-    two-groups (now (a .bytes)) (a .at) (a .end) (a .bound) (omega arith) (omega arith) (omega arith) (omega arith) (t .0) (t .1) (t .2)
+    let a = c .before .before .before .before .before .before .before .before .before .args in
+    let first = getD (now (a .bytes)) (a .at) 0 in
+    let second = getD (now (a .bytes)) (a .at + 1) 0 in
+    let byte = c .before .before .before .before .before .before .shared-slice-known2 .given (a .at) in
+    let group : first % 128 ≡ first - 128 = omega arith in
+    let t = both (ltb 0 second) (ltb (first % 128 + 128 * second) (a .bound)) (c .if7 .taken) in
+    let small = ltb-true (first % 128 + 128 * second) (a .bound) (t .1) in
+    rw group
+    (two-groups (now (a .bytes)) (a .at) (a .end) (a .bound) (omega arith) (omega arith) (omega arith) (omega arith)
+    (ltb-true 0 second (t .0)) (omega arith) (omega arith))
 
-add-if7 : tie.Need-add-if7
-add-if7 c = search needs
+returns-6 : tie.Need-returns-6
+returns-6 c =
+    let a = c .before .before .before .before .before .before .before .before .before .args in
+    let first = getD (now (a .bytes)) (a .at) 0 in
+    let second = getD (now (a .bytes)) (a .at + 1) 0 in
+    let n = first % 128 + 128 * second in
+    let byte = c .before .before .before .before .before .before .shared-slice-known2 .given (a .at) in
+    two-broken (now (a .bytes)) (a .at) (a .end) (a .bound) (omega arith) (omega arith) (omega arith) (omega arith) (omega arith)
+    (λ h. omega (arith, ltb-false n (a .bound) (not-both (ltb 0 second) (ltb n (a .bound)) (c .if7 .left) (lt-ltb 0 second h))))
+
+add-if8 : tie.Need-add-if8
+add-if8 c = search needs
 
 add-d : tie.Need-add-d
 add-d c = search needs
-
--- A third group stands there, and the second is not the last.
-third : (c : tie.Then7) → let a = c .before .before .before .before .before .before .before .before .before .args in
-    (a .at + 2 < a .end) × (128 ≤ getD (now (a .bytes)) (a .at + 1) 0)
-third c =
-    let a = c .before .before .before .before .before .before .before .before .before .args in
-    let t = both (ltb (a .at + 2) (a .end)) (leb 128 (getD (now (a .bytes)) (a .at + 1) 0)) (c .if7 .taken) in
-    (ltb-true (a .at + 2) (a .end) (t .0), leb-true 128 (getD (now (a .bytes)) (a .at + 1) 0) (t .1))
 
 -- The three bytes.
 three-bytes : (c : tie.After-shared-slice-known4) → let a = c .before .before .before .before .before .before .before .before .before .before .args in
@@ -119,19 +116,16 @@ three-bytes c =
     (omega (arith, c .before .before .before .before .before .before .before .shared-slice-known2 .given (a .at)), omega (arith, c .before .before .before .shared-slice-known3 .given (a .at + 1)), omega (arith, c .shared-slice-known4 .given (a .at + 2)))
 
 shared-slice-read-d : tie.Need-shared-slice-read-d
-shared-slice-read-d c = omega (arith, third (c .before))
+shared-slice-read-d c = search needs
 
 cast-d : tie.Need-cast-d
 cast-d c = omega (arith, three-bytes c)
 
-sub-n : tie.Need-sub-n
-sub-n c = omega (arith, third (c .before))
-
 mul-n-2 : tie.Need-mul-n-2
-mul-n-2 c = omega (arith, three-bytes c)
+mul-n-2 c = search needs
 
 add-n-2 : tie.Need-add-n-2
-add-n-2 c = omega (arith, three-bytes c)
+add-n-2 c = search needs
 
 mul-n-3 : tie.Need-mul-n-3
 mul-n-3 c = omega (arith, three-bytes c)
@@ -140,31 +134,36 @@ add-n-3 : tie.Need-add-n-3
 add-n-3 c = omega (arith, three-bytes c)
 
 -- The third group is the last, and the number is below the bound.
-three : (c : tie.Then8) → let a = c .before .before .before .before .before .before .before .before .before .before .before .args in
+three : (c : tie.Then9) → let a = c .before .before .before .before .before .before .before .before .before .before .before .args in
     let last = getD (now (a .bytes)) (a .at + 2) 0 in
-    let n = getD (now (a .bytes)) (a .at) 0 - 128 + 128 * (getD (now (a .bytes)) (a .at + 1) 0 - 128) + 16384 * last in
+    let n = getD (now (a .bytes)) (a .at) 0 % 128 + 128 * (getD (now (a .bytes)) (a .at + 1) 0 % 128) + 16384 * last in
     (0 < last) × (last < 128) × (n < a .bound)
 three c =
     let a = c .before .before .before .before .before .before .before .before .before .before .before .args in
     let last = getD (now (a .bytes)) (a .at + 2) 0 in
-    let n = getD (now (a .bytes)) (a .at) 0 - 128 + 128 * (getD (now (a .bytes)) (a .at + 1) 0 - 128) + 16384 * last in
-    let t = both (ltb 0 last && ltb last 128) (ltb n (a .bound)) (c .if8 .taken) in
+    let n = getD (now (a .bytes)) (a .at) 0 % 128 + 128 * (getD (now (a .bytes)) (a .at + 1) 0 % 128) + 16384 * last in
+    let t = both (ltb 0 last && ltb last 128) (ltb n (a .bound)) (c .if9 .taken) in
     let u = both (ltb 0 last) (ltb last 128) (t .0) in
     (ltb-true 0 last (u .0), ltb-true last 128 (u .1), ltb-true n (a .bound) (t .1))
 
-cast-t42 : tie.Need-cast-t42
-cast-t42 c = omega (arith, three c)
+cast-t41 : tie.Need-cast-t41
+cast-t41 c = omega (arith, three c)
 
-add-t43 : tie.Need-add-t43
-add-t43 c = search needs
+add-t42 : tie.Need-add-t42
+add-t42 c = search needs
 
-returns-6 : tie.Need-returns-6
-returns-6 c =
+returns-7 : tie.Need-returns-7
+returns-7 c =
     let a = c .before .before .before .before .before .before .before .before .before .before .before .args in
+    let first = getD (now (a .bytes)) (a .at) 0 in
+    let second = getD (now (a .bytes)) (a .at + 1) 0 in
     let byte = three-bytes (c .before) in
-    let more = third (c .before .before) in
+    let group : first % 128 ≡ first - 128 = omega (arith, byte) in
+    let group₂ : second % 128 ≡ second - 128 = omega (arith, byte) in
     let t = three c in
-    three-groups (now (a .bytes)) (a .at) (a .end) (a .bound) (omega arith) (more .0) (omega arith) (byte .0) (more .1) (byte .1) (t .0) (t .1) (t .2)
+    rw (group, group₂)
+    (three-groups (now (a .bytes)) (a .at) (a .end) (a .bound) (omega arith) (omega arith) (omega arith) (byte .0)
+    (omega arith) (byte .1) (t .0) (t .1) (omega (arith, t .2)))
 
 add-read-more : tie.Need-add-read-more
 add-read-more c = search needs
@@ -173,8 +172,8 @@ read-more-requires : tie.Need-read-more-requires
 read-more-requires c κs =
     omega (arith, c .before .before .before .shared-slice-known2 .given (c .before .before .before .before .before .before .args .at))
 
-returns-7 : tie.Need-returns-7
-returns-7 c =
+returns-8 : tie.Need-returns-8
+returns-8 c =
     let a = c .before .before .before .before .before .before .before .args in
     let byte = c .before .before .before .before .shared-slice-known2 .given (a .at) in
     rw (← more-groups (now (a .bytes)) (a .at) (a .end) (a .bound) (omega arith) (omega arith) (omega arith) (omega arith))
@@ -198,21 +197,21 @@ number-at-spec =
     cast-c
     mul-n
     add-n
-    cast-t27
-    add-t28
+    cast-t26
+    add-t27
     returns-5
-    add-if7
+    returns-6
+    add-if8
     add-d
     shared-slice-read-d
     cast-d
-    sub-n
     mul-n-2
     add-n-2
     mul-n-3
     add-n-3
-    cast-t42
-    add-t43
-    returns-6
+    cast-t41
+    add-t42
+    returns-7
     add-read-more
     read-more-requires
-    returns-7)
+    returns-8)
