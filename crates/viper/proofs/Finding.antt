@@ -1,13 +1,10 @@
 -- What there is to take back, by what was read of the newest record: a short one marks no word, and of A, X and Y at most one.
 -- Assumes nothing.
 use Prim.Native.Nat.{ℕ, _%_}
-use mathlib.Core.Path.{_≡_, refl, sym, _∙_}
+use mathlib.Core.Path.{_≡_, refl}
 use mathlib.Core.List.{List}
 use lib.ListN.{length}
-use Rattle.machine.specs.Held.{ram, machine-of}
 use Rattle.machine.specs.declared.Machine.{Machine}
-use Rattle.report.specs.AnnexA.{Mem}
-use Rattle.trail.specs.Records.{restored}
 use Rattle.trail.specs.declared.OldValues.{OldValues}
 use Rattle.trail.specs.declared.Newest.{Newest}
 use Rattle.trail.specs.declared.Newest.the-variants as newest

@@ -1,7 +1,6 @@
 // The public calls. Each is its refusals in the order of their numbers, and then one function that does the work (document 01).
 use crate::Answer;
 use crate::Found;
-use crate::Marked;
 use crate::Outcome;
 use crate::Refusal;
 use crate::RunAnswer;
@@ -9,30 +8,23 @@ use crate::RunOutcome;
 use crate::views::is_fitted;
 use machine::Ending;
 use machine::Machine;
-use machine::MainAddress;
 use machine::Place;
-use machine::PortNumber;
-use reading::ShortRecord;
 use step::finish::Stepped;
 use step::finish::changed_to;
 use step::finish::put_word;
 use step::finish::word_at;
 use step::phases::step_once;
 use trail::Added;
-use trail::Newest;
-use trail::OldValues;
 use trail::Word;
 ghost use mathlib.Core.Path.{_≡_};
-ghost use mathlib.Core.Bool.{cond};
 ghost use mathlib.Core.List.{List};
-ghost use Prim.Native.Nat.{ℕ, _<_};
+ghost use Prim.Native.Nat.{ℕ};
 ghost use lib.ListN.{length};
-ghost use Rattle.machine.specs.Held.{ram, state, machine-of};
-ghost use Rattle.trail.specs.Records.{restored};
-ghost use Rattle.viper.specs.Noting.{noted, stores-restored, Refits};
+ghost use Rattle.machine.specs.Held.{ram};
+ghost use Rattle.viper.specs.Noting.{noted};
 ghost use Rattle.viper.specs.Operations.{reset as reset·op, force as force·op, step as step·op, set-word, outcome};
 ghost use Rattle.viper.specs.Runs.{over-and-over, run-outcome};
-ghost use Rattle.viper.specs.TakingBack.{back-outcome, Finds};
+ghost use Rattle.viper.specs.TakingBack.{back-outcome};
 ghost use Rattle.viper.specs.Told.{bench, told, run-told};
 ghost use Rattle.viper.specs.declared.Answer.the-variants.{Refused};
 ghost use Rattle.step.specs.Lawful.{Lawful};
@@ -40,7 +32,7 @@ ghost use Rattle.step.specs.Phases.{held};
 ghost use Rattle.viper.specs.Judging.{first-refusals, ran-told, answer-by};
 
 // Refusals 1 to 3, by P, the words of both stores, the bytes of the trail and those in use.
-fn judge(p: u32, main: usize, ports: usize, trail: usize, used: usize) -> Answer
+pub(crate) fn judge(p: u32, main: usize, ports: usize, trail: usize, used: usize) -> Answer
     ensures { λ r. ⌜ r ≡ first-refusals p main ports trail used ⌝ }
 {
     if p >= 0x10_0000 {
@@ -306,86 +298,6 @@ pub fn set(
     }
 }
 
-// The first of two values, if it is chosen.
-fn choose(first: bool, a: u32, b: u32) -> u32
-    ensures { λ r. ⌜ r ≡ cond first a b ⌝ }
-{
-    if first { a } else { b }
-}
-
-// The machine with the old values of a record: what is not marked stays.
-fn machine_restored(o: OldValues, m: Machine) -> Machine
-    ensures { λ r. ⌜ ((main ports : List ℕ) → r ≡ machine-of (restored o (state m (ram main ports)))) ⌝ }
-{
-    let marks = o.marks;
-    Machine {
-        a: choose(marks / 1 % 2 == 1, o.a, m.a),
-        x: choose(marks / 2 % 2 == 1, o.x, m.x),
-        y: choose(marks / 4 % 2 == 1, o.y, m.y),
-        p: o.p,
-        b: marks / 16 % 2 == 1,
-        stop: marks / 32 % 2 == 1,
-    }
-}
-
-// Puts back the word of a record that marks one.
-pub fn word_restored(o: OldValues, main: &mut [u32], ports: &mut [u32])
-    requires { ⌜ Refits (ram (now main) (now ports)) o ⌝ }
-    ensures { λ _. ⌜ ram (now (main .exit)) (now (ports .exit)) ≡ stores-restored o (ram (now (main .entry)) (now (ports .entry))) ⌝ }
-{
-    if o.marks / 8 % 2 == 1 {
-        if o.place < 0x10_0000 {
-            put_word(main, ports, Place::Main(MainAddress(o.place)), o.value);
-        } else {
-            put_word(
-                main,
-                ports,
-                Place::Port(PortNumber(o.place - 0x10_0000)),
-                o.value,
-            );
-        }
-    }
-}
-
-// What there is to take back. The machine is asked for its P alone, and nothing is written: who has the machine in another form puts it back there.
-pub fn find(m: Machine, main: &[u32], ports: &[u32], trail: &[u8], used: usize) -> Found
-    ensures { λ r. ⌜ Finds r (bench m (now (main .entry)) (now (ports .entry)) (now (trail .entry)) used) ⌝ }
-{
-    let first = judge(m.p, main.len(), ports.len(), trail.len(), used);
-    if let Answer::Refused(r) = first {
-        return Found::Refused(r);
-    }
-    if used == 0 {
-        return Found::Refused(Refusal::NothingInUse);
-    }
-    // A short record marks no word, and at most one register.
-    let short = reading::read_short(trail, used);
-    match short {
-        ShortRecord::Kept(o, left) => {
-            return Found::Record(Marked::Nothing, o, left);
-        }
-        ShortRecord::A(o, left) => {
-            return Found::Record(Marked::A, o, left);
-        }
-        ShortRecord::X(o, left) => {
-            return Found::Record(Marked::X, o, left);
-        }
-        ShortRecord::Y(o, left) => {
-            return Found::Record(Marked::Y, o, left);
-        }
-        ShortRecord::Broken => {
-            return Found::Refused(Refusal::BrokenRecord);
-        }
-        ShortRecord::Longer => {
-            let Newest::Record(o, left) = reading::newest(trail, used, main.len(), ports.len())
-            else {
-                return Found::Refused(Refusal::BrokenRecord);
-            };
-            return Found::Record(Marked::Any, o, left);
-        }
-    }
-}
-
 // Takes back the newest operation on the trail. No trail byte is written.
 pub fn take_back(
     m: Machine,
@@ -396,15 +308,15 @@ pub fn take_back(
 ) -> Outcome
     ensures { λ r. ⌜ told r (now (main .exit)) (now (ports .exit)) (now (trail .entry)) ≡ back-outcome (bench m (now (main .entry)) (now (ports .entry)) (now (trail .entry)) used) ⌝ }
 {
-    let found = find(m, main, ports, trail, used);
+    let found = crate::back::find(m, main, ports, trail, used);
     match found {
         Found::Refused(r) => {
             return refuse(m, used, r);
         }
         Found::Record(_, o, left) => {
-            word_restored(o, main, ports);
+            crate::back::word_restored(o, main, ports);
             return Outcome {
-                machine: machine_restored(o, m),
+                machine: crate::back::machine_restored(o, m),
                 used: left,
                 answer: Answer::Done,
             };

@@ -1,6 +1,7 @@
 // The bench: the calls step, run, reset, force, set a word, take back and view (document 01).
 // The machine goes in and comes back by value; the two stores and the trail are lent. No call has a `requires`: bad input is refused,
 // and a refused call changes nothing.
+pub mod back;
 pub mod calls;
 pub mod views;
 

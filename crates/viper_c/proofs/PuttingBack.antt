@@ -11,7 +11,6 @@ use Rattle.report.specs.AnnexA.{Mem}
 use Rattle.machine.specs.Held.{state, machine-of}
 use Rattle.trail.specs.Records.{restored, marked}
 use Rattle.trail.specs.declared.OldValues.{OldValues}
-use Rattle.viper.specs.Noting.{stores-restored}
 use Rattle.viper.specs.TakingBack.{Marks}
 use Rattle.viper.specs.declared.Marked.{Marked}
 use Rattle.viper_c.specs.Surface.{one-or-zero, machine-of-regs, regs-of-machine}
@@ -38,9 +37,6 @@ module _ (o : OldValues) (regs : List ℕ) where
 
   pub y-put : o .marks % 16 ≡ 4 → set (flags-put o regs) 2 (o .y) ≡ all-put o regs
   y-put z = rw (ne-eqb (o .marks / 1 % 2) 1 (omega arith), ne-eqb (o .marks / 2 % 2) 1 (omega arith), eq-eqb (o .marks / 4 % 2) 1 (omega arith))
-
-pub no-word : (r : Mem) (o : OldValues) → (o .marks / 8 % 2 ≡ 1 → ⊥) → r ≡ stores-restored o r
-no-word r o h = rw (ne-eqb (o .marks / 8 % 2) 1 h)
 
 -- ---- the words of the machine restored
 

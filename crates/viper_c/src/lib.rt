@@ -112,7 +112,7 @@ pub extern "C" fn viper_back(
 {
     let m = machine_of(regs);
     let count = *used;
-    let found = viper::calls::find(m, main, ports, trail, count);
+    let found = viper::back::find(m, main, ports, trail, count);
     match found {
         Found::Refused(refusal) => {
             return number_of(refusal);

@@ -2,7 +2,7 @@
 use crate::registers::one_or_zero;
 use trail::OldValues;
 use viper::Marked;
-use viper::calls::word_restored;
+use viper::back::word_restored;
 ghost use mathlib.Core.Path.{_≡_};
 ghost use Prim.Native.Nat.{_<_};
 ghost use lib.ListN.{length};

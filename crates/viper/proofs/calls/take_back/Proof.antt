@@ -1,13 +1,11 @@
 -- What there is to take back is refused, or put back: the word first, then the machine.
-use mathlib.Core.Path.{_≡_, ap, _∙_}
+use mathlib.Core.Path.{ap, _∙_}
 use denote.Ref.{now}
 use Rattle.report.specs.Section3.{State}
 use Rattle.machine.specs.Held.{ram, state}
-use Rattle.trail.specs.Records.{restored}
 use Rattle.viper.specs.declared.Answer.the-variants.{Done}
 use Rattle.viper.specs.declared.Outcome.{Outcome}
-use Rattle.viper.specs.Operations as operations
-use Rattle.viper.specs.TakingBack.{Finds, Restores}
+use Rattle.viper.specs.TakingBack.{Restores}
 use Rattle.viper.specs.Told.{bench, told}
 use Rattle.viper.proofs.Exits.{restored-parts}
 use borrow.Author.Needs.{needs}

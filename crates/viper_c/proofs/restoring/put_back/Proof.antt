@@ -1,14 +1,16 @@
 -- By what is known of the marks: each way, all that is marked is put.
-use Prim.Native.Nat.{ℕ, _%_}
-use mathlib.Core.Path.{_≡_, refl, ap, _∙_}
+use Prim.Native.Nat.{ℕ, _/_, _%_}
+use mathlib.Core.Path.{_≡_, ap, _∙_}
 use mathlib.Core.List.{List}
 use native.Mathlib.Omega.{arith}
 use denote.Ref.{now}
 use lib.ListN.{length, set}
 use Rattle.machine.specs.Held.{ram}
 use Rattle.trail.specs.Records.{marked}
-use Rattle.viper_c.specs.Restoring.{put-if, flags-put}
-use Rattle.viper_c.proofs.PuttingBack.{put-length, known, nothing-put, a-put, x-put, y-put, no-word}
+use Rattle.viper.proofs.Exits.{none-restored}
+use Rattle.viper_c.specs.Restoring.{put-if}
+use Rattle.viper_c.proofs.PuttingBack.{put-length, known, nothing-put, a-put, x-put, y-put}
+use borrow.Author.Tests.{ne-eqb}
 use borrow.Author.Needs.{needs}
 use Rattle.viper_c.proofs.restoring.put_back.Statement.{statement}
 use Rattle.viper_c.proofs.restoring.put_back.Tie as tie
@@ -76,28 +78,28 @@ returns c =
     let f = c .before .before in
     let a = start f .args in
     let z : a .o .marks % 16 ≡ 0 = known (a .o .marks) (c .enum-told .given .1) (start f .pre .1) in
-    (f .put-flags .ensures ∙ nothing-put (a .o) (now (a .regs)) z, no-word (ram (now (a .main)) (now (a .ports))) (a .o) (omega arith))
+    (f .put-flags .ensures ∙ nothing-put (a .o) (now (a .regs)) z, none-restored (ram (now (a .main)) (now (a .ports))) (a .o) (ne-eqb (a .o .marks / 8 % 2) 1 (omega arith)))
 
 returns-2 : tie.Need-returns-2
 returns-2 c =
     let f = c .before .before in
     let a = start f .args in
     let z : a .o .marks % 16 ≡ 1 = known (a .o .marks) (c .enum-told2 .given .1) (start f .pre .1) in
-    (ap (λ (r : List ℕ). set r 0 (a .o .a)) (f .put-flags .ensures) ∙ a-put (a .o) (now (a .regs)) z, no-word (ram (now (a .main)) (now (a .ports))) (a .o) (omega arith))
+    (ap (λ (r : List ℕ). set r 0 (a .o .a)) (f .put-flags .ensures) ∙ a-put (a .o) (now (a .regs)) z, none-restored (ram (now (a .main)) (now (a .ports))) (a .o) (ne-eqb (a .o .marks / 8 % 2) 1 (omega arith)))
 
 returns-3 : tie.Need-returns-3
 returns-3 c =
     let f = c .before .before in
     let a = start f .args in
     let z : a .o .marks % 16 ≡ 2 = known (a .o .marks) (c .enum-told3 .given .1) (start f .pre .1) in
-    (ap (λ (r : List ℕ). set r 1 (a .o .x)) (f .put-flags .ensures) ∙ x-put (a .o) (now (a .regs)) z, no-word (ram (now (a .main)) (now (a .ports))) (a .o) (omega arith))
+    (ap (λ (r : List ℕ). set r 1 (a .o .x)) (f .put-flags .ensures) ∙ x-put (a .o) (now (a .regs)) z, none-restored (ram (now (a .main)) (now (a .ports))) (a .o) (ne-eqb (a .o .marks / 8 % 2) 1 (omega arith)))
 
 returns-4 : tie.Need-returns-4
 returns-4 c =
     let f = c .before .before in
     let a = start f .args in
     let z : a .o .marks % 16 ≡ 4 = known (a .o .marks) (c .enum-told4 .given .1) (start f .pre .1) in
-    (ap (λ (r : List ℕ). set r 2 (a .o .y)) (f .put-flags .ensures) ∙ y-put (a .o) (now (a .regs)) z, no-word (ram (now (a .main)) (now (a .ports))) (a .o) (omega arith))
+    (ap (λ (r : List ℕ). set r 2 (a .o .y)) (f .put-flags .ensures) ∙ y-put (a .o) (now (a .regs)) z, none-restored (ram (now (a .main)) (now (a .ports))) (a .o) (ne-eqb (a .o .marks / 8 % 2) 1 (omega arith)))
 
 same-length : tie.Need-same-length
 same-length c = search needs

@@ -5,8 +5,8 @@ use denote.Ref.{now}
 use Rattle.machine.specs.Held.{ram}
 use Rattle.viper.proofs.Exits.{main-refits, port-refits, main-restored, port-restored, none-restored}
 use borrow.Author.Needs.{needs}
-use Rattle.viper.proofs.calls.word_restored.Statement.{statement}
-use Rattle.viper.proofs.calls.word_restored.Tie as tie
+use Rattle.viper.proofs.back.word_restored.Statement.{statement}
+use Rattle.viper.proofs.back.word_restored.Tie as tie
 
 put-word-requires : tie.Need-put-word-requires
 put-word-requires c κs = let s = c .before .before .before .before .before .before .before .before in main-refits (ram (now (s .args .main)) (now (s .args .ports))) (s .args .o) (eq-eqb _ 1 (c .before .before .before .before .if1 .taken)) (c .before .before .if2 .taken) (s .pre)

@@ -1,8 +1,8 @@
 -- Each value is the old one where it is marked.
 use Rattle.trail.specs.Records.{restored}
 use borrow.Author.Needs.{needs}
-use Rattle.viper.proofs.calls.machine_restored.Statement.{statement}
-use Rattle.viper.proofs.calls.machine_restored.Tie as tie
+use Rattle.viper.proofs.back.machine_restored.Statement.{statement}
+use Rattle.viper.proofs.back.machine_restored.Tie as tie
 
 choose-requires : tie.Need-choose-requires
 choose-requires c κs = search needs

@@ -1,8 +1,6 @@
 -- Refusals 1 to 3, 7 and 8, or the old values of the newest record: a short one, or a longer.
 use Prim.{tt}
-use Prim.Native.Nat.{ℕ, _<_, _≤_}
-use mathlib.Core.Path.{_≡_}
-use mathlib.Core.List.{List}
+use Prim.Native.Nat.{_<_, _≤_}
 use native.Mathlib.Omega.{arith}
 use denote.Ref.{now}
 use lib.ListN.{length}
@@ -10,8 +8,8 @@ use Rattle.viper.specs.declared.Marked.the-variants.{Any}
 use Rattle.viper.proofs.Exits.{passed, back-first, back-nothing, back-broken}
 use Rattle.viper.proofs.Finding.{restores, nothing-marked, a-marked, x-marked, y-marked, short-broken}
 use borrow.Author.Needs.{needs}
-use Rattle.viper.proofs.calls.find.Statement.{statement}
-use Rattle.viper.proofs.calls.find.Tie as tie
+use Rattle.viper.proofs.back.find.Statement.{statement}
+use Rattle.viper.proofs.back.find.Tie as tie
 
 -- Refusals 1 to 3 are passed, and bytes are in use.
 reading : (c : tie.Else1) → let a = c .before .before .before .before .before .before .before .args in (0 < a .used) × (a .used ≤ length (now (a .trail)))
