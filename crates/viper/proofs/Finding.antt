@@ -17,7 +17,8 @@ use Rattle.viper.specs.declared.Answer.the-variants.{Done, Refused}
 use Rattle.viper.specs.declared.Marked.{Marked}
 use Rattle.viper.specs.declared.Marked.the-variants as marked·is
 use Rattle.viper.specs.Operations.{newest-of}
-use Rattle.viper.specs.TakingBack.{back-outcome, Marks, Restores}
+use Rattle.viper.specs.TakingBack.{back-outcome}
+use Rattle.viper.specs.Finding.{Marks, Restores}
 use Rattle.viper.specs.Judging.{first-refusals}
 use Rattle.viper.specs.Told.{bench}
 use Rattle.viper.proofs.Exits.{back-broken, back-ready, back-refits}

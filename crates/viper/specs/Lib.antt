@@ -2,6 +2,7 @@ pub mod Refusals
 pub mod Operations
 pub mod Runs
 pub mod TakingBack
+pub mod Finding
 pub mod Views
 pub mod Told
 pub mod Judging

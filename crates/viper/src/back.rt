@@ -20,7 +20,7 @@ ghost use Prim.Native.Nat.{ℕ};
 ghost use Rattle.machine.specs.Held.{ram, state, machine-of};
 ghost use Rattle.trail.specs.Records.{restored};
 ghost use Rattle.viper.specs.Noting.{stores-restored, Refits};
-ghost use Rattle.viper.specs.TakingBack.{Finds};
+ghost use Rattle.viper.specs.Finding.{Finds};
 ghost use Rattle.viper.specs.Told.{bench};
 
 // What there is to take back. Of the machine only P is asked, and nothing is written.

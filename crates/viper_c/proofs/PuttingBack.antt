@@ -11,7 +11,7 @@ use Rattle.report.specs.AnnexA.{Mem}
 use Rattle.machine.specs.Held.{state, machine-of}
 use Rattle.trail.specs.Records.{restored, marked}
 use Rattle.trail.specs.declared.OldValues.{OldValues}
-use Rattle.viper.specs.TakingBack.{Marks}
+use Rattle.viper.specs.Finding.{Marks}
 use Rattle.viper.specs.declared.Marked.{Marked}
 use Rattle.viper_c.specs.Surface.{one-or-zero, machine-of-regs, regs-of-machine}
 use Rattle.viper_c.specs.Restoring.{put-if, flags-put, all-put}

@@ -1,5 +1,6 @@
 // The calls for C, as include/viper.h declares them. Each reads the machine from regs, makes the call of the crate viper, and hands its
-// outcome back. None has a `requires`: what C lends is refused or obeyed as document 01 says.
+// outcome back; taking back finds what there is to take back, and puts it back in regs itself. None has a `requires`: what C lends is refused
+// or obeyed as document 01 says.
 mod answers;
 mod registers;
 mod restoring;
@@ -99,7 +100,7 @@ pub extern "C" fn viper_set(
     hand_back(o, regs, used)
 }
 
-// Takes back the newest operation on the trail, and no more of regs is read or written than that asks for. No trail byte is written.
+// Takes back the newest operation on the trail. No trail byte is written.
 #[no_mangle]
 pub extern "C" fn viper_back(
     regs: &mut [u32; 6],

@@ -8,7 +8,7 @@ ghost use Prim.Native.Nat.{_<_};
 ghost use lib.ListN.{length};
 ghost use Rattle.machine.specs.Held.{ram};
 ghost use Rattle.viper.specs.Noting.{Refits, stores-restored};
-ghost use Rattle.viper.specs.TakingBack.{Marks};
+ghost use Rattle.viper.specs.Finding.{Marks};
 ghost use Rattle.viper_c.specs.Restoring.{put-if as put-if·of, flags-put, all-put};
 
 // Puts back P, B and STOP. A, X and Y are written as they are, so that all six words are known; the compiler leaves that out.

@@ -6,7 +6,8 @@ use Rattle.machine.specs.Held.{ram, state, machine-of}
 use Rattle.machine.specs.declared.Machine.{Machine}
 use Rattle.trail.specs.Records.{restored}
 use Rattle.viper.specs.declared.Answer.the-variants.{Done, Refused}
-use Rattle.viper.specs.TakingBack.{back-outcome, Restores}
+use Rattle.viper.specs.TakingBack.{back-outcome}
+use Rattle.viper.specs.Finding.{Restores}
 use Rattle.viper.specs.Told.{bench}
 use Rattle.viper.proofs.Exits.{restored-parts}
 use Rattle.viper_c.specs.Surface.{regs-of-machine}

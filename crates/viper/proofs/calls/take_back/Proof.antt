@@ -5,7 +5,7 @@ use Rattle.report.specs.Section3.{State}
 use Rattle.machine.specs.Held.{ram, state}
 use Rattle.viper.specs.declared.Answer.the-variants.{Done}
 use Rattle.viper.specs.declared.Outcome.{Outcome}
-use Rattle.viper.specs.TakingBack.{Restores}
+use Rattle.viper.specs.Finding.{Restores}
 use Rattle.viper.specs.Told.{bench, told}
 use Rattle.viper.proofs.Exits.{restored-parts}
 use borrow.Author.Needs.{needs}
