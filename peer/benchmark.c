@@ -19,6 +19,9 @@
 enum { MOST_STEPS = 1000000, FEWEST_WORDS = 1024, MOST_WORDS = 1048576 };
 enum { TRAIL = 14 * MOST_STEPS, ROUNDS = 31 };
 
+/* The trail of these lies in a core's own cache; that of the most goes through what all share. */
+enum { TABLE_STEPS = 100000 };
+
 /* ---- The routines ---- */
 
 struct routine {
@@ -235,79 +238,74 @@ static struct costs measure(struct side *side, uint32_t steps)
     return costs;
 }
 
-struct outcome {
-    struct costs ours, peer, speed;
+/* What is measured: a routine, its steps and the words of its stores; and what each side took. */
+struct row {
+    const struct routine *routine;
+    uint32_t steps;
+    size_t main_length, ports_length;
+    struct costs ours, peer;
 };
 
 static void keep_least(struct costs *least, struct costs costs)
 {
     for (int job = 0; job < JOBS; job++)
-        if (costs.of[job] < least->of[job])
+        if (least->of[job] == 0 || costs.of[job] < least->of[job])
             least->of[job] = costs.of[job];
 }
 
-/* Several rounds, ours first in every other one. The least time counts: whatever else the machine
- * does, and a slower clock, only add to it. */
-static struct outcome measure_both(uint32_t steps)
+/* Every round measures all rows, ours first in every other one. The least time counts: whatever
+ * else the machine does, and a slower clock, only add to it. */
+static void measure_rows(struct row *rows, size_t count)
 {
-    struct outcome outcome = {.ours = measure(&ours, steps), .peer = measure(&peer, steps)};
-    for (int round = 1; round < ROUNDS; round++) {
-        if (round % 2) {
-            keep_least(&outcome.peer, measure(&peer, steps));
-            keep_least(&outcome.ours, measure(&ours, steps));
-        } else {
-            keep_least(&outcome.ours, measure(&ours, steps));
-            keep_least(&outcome.peer, measure(&peer, steps));
+    for (int round = 0; round < ROUNDS; round++)
+        for (struct row *row = rows; row < rows + count; row++) {
+            load(&ours, row->routine, row->main_length, row->ports_length);
+            load(&peer, row->routine, row->main_length, row->ports_length);
+            if (round == 0)
+                check_same_job(row->steps);
+            if (round % 2) {
+                keep_least(&row->peer, measure(&peer, row->steps));
+                keep_least(&row->ours, measure(&ours, row->steps));
+            } else {
+                keep_least(&row->ours, measure(&ours, row->steps));
+                keep_least(&row->peer, measure(&peer, row->steps));
+            }
         }
-    }
-    for (int job = 0; job < JOBS; job++)
-        outcome.speed.of[job] = outcome.peer.of[job] / outcome.ours.of[job];
-    return outcome;
 }
 
 /* ---- The tables ---- */
 
+static void print_speeds(const char *name, struct costs of_ours, struct costs of_peer)
+{
+    printf("%-12s", name);
+    for (int job = 0; job < JOBS; job++)
+        printf(" %5.2f (%6.2f, %6.2f)", of_peer.of[job] / of_ours.of[job], of_ours.of[job],
+               of_peer.of[job]);
+    printf("\n");
+}
+
 static void speed_table(void)
 {
+    struct row rows[ROUTINES];
     struct costs all_ours = {{0, 0, 0}}, all_peer = {{0, 0, 0}};
-    printf("%d steps, main 8192 words, ports 256 words, the least time of %d rounds\n", MOST_STEPS,
+    for (int i = 0; i < ROUTINES; i++)
+        rows[i] = (struct row){.routine = &routines[i], .steps = TABLE_STEPS,
+                               .main_length = 8192, .ports_length = 256};
+    measure_rows(rows, ROUTINES);
+    printf("%d steps, main 8192 words, ports 256 words, the least time of %d rounds\n", TABLE_STEPS,
            ROUNDS);
     printf("speed of ours to the peer's (above 1: ours is faster); ns a step: ours, peer\n");
     printf("%-12s %-22s %-22s %-22s\n", "routine", "run", "take back", "single steps");
     for (int i = 0; i < ROUTINES; i++) {
-        load(&ours, &routines[i], 8192, 256);
-        load(&peer, &routines[i], 8192, 256);
-        check_same_job(MOST_STEPS);
-        struct outcome o = measure_both(MOST_STEPS);
-        printf("%-12s", routines[i].name);
+        print_speeds(rows[i].routine->name, rows[i].ours, rows[i].peer);
         for (int job = 0; job < JOBS; job++) {
-            printf(" %5.2f (%6.2f, %6.2f)", o.speed.of[job], o.ours.of[job], o.peer.of[job]);
-            all_ours.of[job] += o.ours.of[job];
-            all_peer.of[job] += o.peer.of[job];
+            all_ours.of[job] += rows[i].ours.of[job] / ROUTINES;
+            all_peer.of[job] += rows[i].peer.of[job] / ROUTINES;
         }
-        printf("\n");
-        fflush(stdout);
     }
-    printf("%-12s", "together");
-    for (int job = 0; job < JOBS; job++)
-        printf(" %5.2f (%6.2f, %6.2f)", all_peer.of[job] / all_ours.of[job],
-               all_ours.of[job] / ROUTINES, all_peer.of[job] / ROUTINES);
-    printf("\n\n");
-}
-
-static struct costs growth_row(uint32_t steps, size_t words)
-{
-    const struct routine *memory = &routines[1];
-    load(&ours, memory, words, words);
-    load(&peer, memory, words, words);
-    check_same_job(steps);
-    struct outcome o = measure_both(steps);
-    printf("%9" PRIu32 " %9zu", steps, words);
-    for (int job = 0; job < JOBS; job++)
-        printf("   %6.2f, %6.2f", o.ours.of[job], o.peer.of[job]);
+    print_speeds("together", all_ours, all_peer);
     printf("\n");
     fflush(stdout);
-    return o.ours;
 }
 
 static void print_growth(const char *with, struct costs least, struct costs most)
@@ -318,17 +316,27 @@ static void print_growth(const char *with, struct costs least, struct costs most
     printf("\n");
 }
 
+/* Two sets of three rows: by the steps, and by the words of both stores. */
 static void growth_table(void)
 {
+    const uint32_t steps[6] = {1000, 100000, MOST_STEPS, 100000, 100000, 100000};
+    const size_t words[6] = {8192, 8192, 8192, FEWEST_WORDS, 65536, MOST_WORDS};
+    struct row rows[6];
+    for (int i = 0; i < 6; i++)
+        rows[i] = (struct row){.routine = &routines[1], .steps = steps[i],
+                               .main_length = words[i], .ports_length = words[i]};
+    measure_rows(rows, 6);
     printf("routine memory, ns a step: ours, peer; the cost must not grow with steps or words\n");
     printf("%9s %9s   %-16s %-16s %-16s\n", "steps", "words", "run", "take back",
            "single steps");
-    struct costs few = growth_row(1000, 8192);
-    growth_row(100000, 8192);
-    print_growth("steps", few, growth_row(MOST_STEPS, 8192));
-    struct costs small = growth_row(100000, FEWEST_WORDS);
-    growth_row(100000, 65536);
-    print_growth("words", small, growth_row(100000, MOST_WORDS));
+    for (int i = 0; i < 6; i++) {
+        printf("%9" PRIu32 " %9zu", rows[i].steps, rows[i].main_length);
+        for (int job = 0; job < JOBS; job++)
+            printf("   %6.2f, %6.2f", rows[i].ours.of[job], rows[i].peer.of[job]);
+        printf("\n");
+        if (i % 3 == 2)
+            print_growth(i == 2 ? "steps" : "words", rows[i - 2].ours, rows[i].ours);
+    }
 }
 
 int main(int argc, char **argv)
