@@ -1,4 +1,4 @@
--- What reset and force share: the machine changes, the stores do not, and the record of the change goes to the trail; and what taking back does to the machine and the stores.
+-- What reset and force share: the machine changes, the stores do not, and the record of the change goes to the trail; and what taking back does to the stores.
 -- Assumes nothing.
 use Prim.Native.Nat.{ℕ, _+_, _-_, _^_}
 use mathlib.Core.Path.{_≡_}

@@ -1,5 +1,5 @@
-// The parts of taking back: what there is to take back, and its old values put back. `calls::take_back` is made of them; who holds the machine in
-// another form than `Machine` puts the registers back in that form.
+// Taking back, but for the registers: `calls::take_back` puts those back in a `Machine`, and who holds the machine in another form puts them back
+// in that form.
 use crate::Answer;
 use crate::Found;
 use crate::Marked;
@@ -23,9 +23,15 @@ ghost use Rattle.viper.specs.Noting.{stores-restored, Refits};
 ghost use Rattle.viper.specs.Finding.{Finds};
 ghost use Rattle.viper.specs.Told.{bench};
 
-// What there is to take back. Of the machine only P is asked, and nothing is written.
-pub fn find(m: Machine, main: &[u32], ports: &[u32], trail: &[u8], used: usize) -> Found
-    ensures { λ r. ⌜ Finds r (bench m (now (main .entry)) (now (ports .entry)) (now (trail .entry)) used) ⌝ }
+// Takes the newest operation back in the stores, and hands out its old values for the registers. Of the machine only P is asked.
+pub fn restore_stores(
+    m: Machine,
+    main: &mut [u32],
+    ports: &mut [u32],
+    trail: &[u8],
+    used: usize,
+) -> Found
+    ensures { λ r. ⌜ Finds r (ram (now (main .exit)) (now (ports .exit))) (bench m (now (main .entry)) (now (ports .entry)) (now (trail .entry)) used) ⌝ }
 {
     let first = judge(m.p, main.len(), ports.len(), trail.len(), used);
     if let Answer::Refused(r) = first {
@@ -57,6 +63,7 @@ pub fn find(m: Machine, main: &[u32], ports: &[u32], trail: &[u8], used: usize) 
             else {
                 return Found::Refused(Refusal::BrokenRecord);
             };
+            word_restored(o, main, ports);
             return Found::Record(Marked::Any, o, left);
         }
     }
@@ -85,7 +92,7 @@ pub(crate) fn machine_restored(o: OldValues, m: Machine) -> Machine
 }
 
 // Puts back the word of a record that marks one.
-pub fn word_restored(o: OldValues, main: &mut [u32], ports: &mut [u32])
+fn word_restored(o: OldValues, main: &mut [u32], ports: &mut [u32])
     requires { ⌜ Refits (ram (now main) (now ports)) o ⌝ }
     ensures { λ _. ⌜ ram (now (main .exit)) (now (ports .exit)) ≡ stores-restored o (ram (now (main .entry)) (now (ports .entry))) ⌝ }
 {

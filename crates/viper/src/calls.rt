@@ -5,6 +5,8 @@ use crate::Outcome;
 use crate::Refusal;
 use crate::RunAnswer;
 use crate::RunOutcome;
+use crate::back::machine_restored;
+use crate::back::restore_stores;
 use crate::views::is_fitted;
 use machine::Ending;
 use machine::Machine;
@@ -308,15 +310,14 @@ pub fn take_back(
 ) -> Outcome
     ensures { λ r. ⌜ told r (now (main .exit)) (now (ports .exit)) (now (trail .entry)) ≡ back-outcome (bench m (now (main .entry)) (now (ports .entry)) (now (trail .entry)) used) ⌝ }
 {
-    let found = crate::back::find(m, main, ports, trail, used);
+    let found = restore_stores(m, main, ports, trail, used);
     match found {
         Found::Refused(r) => {
             return refuse(m, used, r);
         }
         Found::Record(_, o, left) => {
-            crate::back::word_restored(o, main, ports);
             return Outcome {
-                machine: crate::back::machine_restored(o, m),
+                machine: machine_restored(o, m),
                 used: left,
                 answer: Answer::Done,
             };

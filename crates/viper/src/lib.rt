@@ -54,7 +54,7 @@ pub enum Marked {
     Any,
 }
 
-// What there is to take back: why it is refused; or the newest record, its old values, and the count of bytes in use once it is gone.
+// What taking back finds: why it is refused; or the newest record, its old values, and the count of bytes in use once it is gone.
 pub enum Found {
     Refused(Refusal),
     Record(Marked, OldValues, usize),

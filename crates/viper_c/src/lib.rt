@@ -1,5 +1,5 @@
 // The calls for C, as include/viper.h declares them. Each reads the machine from regs, makes the call of the crate viper, and hands its
-// outcome back; taking back finds what there is to take back, and puts it back in regs itself. None has a `requires`: what C lends is refused
+// outcome back; taking back puts the registers back in regs itself. None has a `requires`: what C lends is refused
 // or obeyed as document 01 says.
 mod answers;
 mod registers;
@@ -113,13 +113,13 @@ pub extern "C" fn viper_back(
 {
     let m = machine_of(regs);
     let count = *used;
-    let found = viper::back::find(m, main, ports, trail, count);
+    let found = viper::back::restore_stores(m, main, ports, trail, count);
     match found {
         Found::Refused(refusal) => {
             return number_of(refusal);
         }
         Found::Record(marked, o, left) => {
-            put_back(marked, o, regs, main, ports);
+            put_back(marked, o, regs);
             *used = left;
             return 0;
         }

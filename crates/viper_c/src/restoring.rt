@@ -1,13 +1,10 @@
-// The old values of a record put back where C has them: P, B and STOP, and of A, X, Y and the words only what is marked.
+// The old values of a record put back in regs: P, B and STOP, and of A, X and Y only what is marked.
 use crate::registers::one_or_zero;
 use trail::OldValues;
 use viper::Marked;
-use viper::back::word_restored;
 ghost use mathlib.Core.Path.{_≡_};
 ghost use Prim.Native.Nat.{_<_};
 ghost use lib.ListN.{length};
-ghost use Rattle.machine.specs.Held.{ram};
-ghost use Rattle.viper.specs.Noting.{Refits, stores-restored};
 ghost use Rattle.viper.specs.Finding.{Marks};
 ghost use Rattle.viper_c.specs.Restoring.{put-if as put-if·of, flags-put, all-put};
 
@@ -30,16 +27,10 @@ fn put_if(marked: bool, regs: &mut [u32; 6], i: usize, v: u32)
     }
 }
 
-// Puts all old values back. Where one register alone is marked, the others are not asked for.
-pub(crate) fn put_back(
-    marked: Marked,
-    o: OldValues,
-    regs: &mut [u32; 6],
-    main: &mut [u32],
-    ports: &mut [u32],
-)
-    requires { ⌜ Refits (ram (now main) (now ports)) o × Marks marked (o .marks) ⌝ }
-    ensures { λ _. ⌜ (now (regs .exit) ≡ all-put o (now (regs .entry))) × (ram (now (main .exit)) (now (ports .exit)) ≡ stores-restored o (ram (now (main .entry)) (now (ports .entry)))) ⌝ }
+// Puts all old values of the registers back. Where one alone is marked, the others are not asked for.
+pub(crate) fn put_back(marked: Marked, o: OldValues, regs: &mut [u32; 6])
+    requires { ⌜ Marks marked (o .marks) ⌝ }
+    ensures { λ _. ⌜ now (regs .exit) ≡ all-put o (now (regs .entry)) ⌝ }
 {
     put_flags(o, regs);
     match marked {
@@ -57,7 +48,6 @@ pub(crate) fn put_back(
             put_if(o.marks / 1 % 2 == 1, regs, 0, o.a);
             put_if(o.marks / 2 % 2 == 1, regs, 1, o.x);
             put_if(o.marks / 4 % 2 == 1, regs, 2, o.y);
-            word_restored(o, main, ports);
         }
     }
 }

@@ -1,22 +1,19 @@
 -- By what is known of the marks: each way, all that is marked is put.
-use Prim.Native.Nat.{ℕ, _/_, _%_}
+use Prim.Native.Nat.{ℕ, _%_}
 use mathlib.Core.Path.{_≡_, ap, _∙_}
 use mathlib.Core.List.{List}
 use native.Mathlib.Omega.{arith}
 use denote.Ref.{now}
 use lib.ListN.{length, set}
-use Rattle.machine.specs.Held.{ram}
 use Rattle.trail.specs.Records.{marked}
-use Rattle.viper.proofs.Exits.{none-restored}
 use Rattle.viper_c.specs.Restoring.{put-if}
 use Rattle.viper_c.proofs.PuttingBack.{put-length, known, nothing-put, a-put, x-put, y-put}
-use borrow.Author.Tests.{ne-eqb}
 use borrow.Author.Needs.{needs}
 use Rattle.viper_c.proofs.restoring.put_back.Statement.{statement}
 use Rattle.viper_c.proofs.restoring.put_back.Tie as tie
 
 abbrev start : tie.After-put-flags → tie.Start
-start f = f .before .before .before .before
+start f = f .before .before
 
 -- Where the marks have to be asked: six words stand in regs after P, B and STOP, after A and after X.
 after-flags : (f : tie.After-put-flags) → length (f .put-flags .last .1 .0) ≡ 6
@@ -70,56 +67,44 @@ put-if-requires-2 c κs = (omega arith, after-a (c .before .before))
 put-if-requires-3 : tie.Need-put-if-requires-3
 put-if-requires-3 c κs = (omega arith, after-x (c .before .before))
 
-word-restored-requires : tie.Need-word-restored-requires
-word-restored-requires c κs = search needs
-
 returns : tie.Need-returns
 returns c =
     let f = c .before .before in
     let a = start f .args in
-    let z : a .o .marks % 16 ≡ 0 = known (a .o .marks) (c .enum-told .given .1) (start f .pre .1) in
-    (f .put-flags .ensures ∙ nothing-put (a .o) (now (a .regs)) z, none-restored (ram (now (a .main)) (now (a .ports))) (a .o) (ne-eqb (a .o .marks / 8 % 2) 1 (omega arith)))
+    let z : a .o .marks % 16 ≡ 0 = known (a .o .marks) (c .enum-told .given .1) (start f .pre) in
+    f .put-flags .ensures ∙ nothing-put (a .o) (now (a .regs)) z
 
 returns-2 : tie.Need-returns-2
 returns-2 c =
     let f = c .before .before in
     let a = start f .args in
-    let z : a .o .marks % 16 ≡ 1 = known (a .o .marks) (c .enum-told2 .given .1) (start f .pre .1) in
-    (ap (λ (r : List ℕ). set r 0 (a .o .a)) (f .put-flags .ensures) ∙ a-put (a .o) (now (a .regs)) z, none-restored (ram (now (a .main)) (now (a .ports))) (a .o) (ne-eqb (a .o .marks / 8 % 2) 1 (omega arith)))
+    let z : a .o .marks % 16 ≡ 1 = known (a .o .marks) (c .enum-told2 .given .1) (start f .pre) in
+    ap (λ (r : List ℕ). set r 0 (a .o .a)) (f .put-flags .ensures) ∙ a-put (a .o) (now (a .regs)) z
 
 returns-3 : tie.Need-returns-3
 returns-3 c =
     let f = c .before .before in
     let a = start f .args in
-    let z : a .o .marks % 16 ≡ 2 = known (a .o .marks) (c .enum-told3 .given .1) (start f .pre .1) in
-    (ap (λ (r : List ℕ). set r 1 (a .o .x)) (f .put-flags .ensures) ∙ x-put (a .o) (now (a .regs)) z, none-restored (ram (now (a .main)) (now (a .ports))) (a .o) (ne-eqb (a .o .marks / 8 % 2) 1 (omega arith)))
+    let z : a .o .marks % 16 ≡ 2 = known (a .o .marks) (c .enum-told3 .given .1) (start f .pre) in
+    ap (λ (r : List ℕ). set r 1 (a .o .x)) (f .put-flags .ensures) ∙ x-put (a .o) (now (a .regs)) z
 
 returns-4 : tie.Need-returns-4
 returns-4 c =
     let f = c .before .before in
     let a = start f .args in
-    let z : a .o .marks % 16 ≡ 4 = known (a .o .marks) (c .enum-told4 .given .1) (start f .pre .1) in
-    (ap (λ (r : List ℕ). set r 2 (a .o .y)) (f .put-flags .ensures) ∙ y-put (a .o) (now (a .regs)) z, none-restored (ram (now (a .main)) (now (a .ports))) (a .o) (ne-eqb (a .o .marks / 8 % 2) 1 (omega arith)))
-
-same-length : tie.Need-same-length
-same-length c = search needs
-
-same-length-2 : tie.Need-same-length-2
-same-length-2 c = search needs
+    let z : a .o .marks % 16 ≡ 4 = known (a .o .marks) (c .enum-told4 .given .1) (start f .pre) in
+    ap (λ (r : List ℕ). set r 2 (a .o .y)) (f .put-flags .ensures) ∙ y-put (a .o) (now (a .regs)) z
 
 returns-5 : tie.Need-returns-5
 returns-5 c =
-    let y = c .before .before .before .before .before .before .before in
-    let x = y .before .before .before in
+    let x = c .before .before .before in
     let a = x .before .before .before in
     let f = a .before .before .before .before .before in
-    let o = start f .args .o in (
-      y .put-if3 .ensures
-          ∙ ap (put-if (marked 4 (o .marks)) 2 (o .y))
-          (x .put-if2 .ensures
-          ∙ ap (put-if (marked 2 (o .marks)) 1 (o .x)) (a .put-if .ensures ∙ ap (put-if (marked 1 (o .marks)) 0 (o .a)) (f .put-flags .ensures))),
-      c .before .before .before .before .word-restored .ensures,
-    )
+    let o = start f .args .o in
+    c .put-if3 .ensures
+    ∙ ap (put-if (marked 4 (o .marks)) 2 (o .y))
+    (x .put-if2 .ensures
+    ∙ ap (put-if (marked 2 (o .marks)) 1 (o .x)) (a .put-if .ensures ∙ ap (put-if (marked 1 (o .marks)) 0 (o .a)) (f .put-flags .ensures)))
 
 pub put-back-spec : {M : Type 1} → statement M
 put-back-spec =
@@ -137,11 +122,8 @@ put-back-spec =
     put-if-requires
     put-if-requires-2
     put-if-requires-3
-    word-restored-requires
     returns
     returns-2
     returns-3
     returns-4
-    same-length
-    same-length-2
     returns-5)

@@ -4,12 +4,13 @@ use Prim.Native.Nat.{_<_, _≤_}
 use native.Mathlib.Omega.{arith}
 use denote.Ref.{now}
 use lib.ListN.{length}
+use Rattle.machine.specs.Held.{ram}
 use Rattle.viper.specs.declared.Marked.the-variants.{Any}
-use Rattle.viper.proofs.Exits.{passed, back-first, back-nothing, back-broken}
+use Rattle.viper.proofs.Exits.{passed, back-first, back-nothing, back-broken, back-refits}
 use Rattle.viper.proofs.Finding.{restores, nothing-marked, a-marked, x-marked, y-marked, short-broken}
 use borrow.Author.Needs.{needs}
-use Rattle.viper.proofs.back.find.Statement.{statement}
-use Rattle.viper.proofs.back.find.Tie as tie
+use Rattle.viper.proofs.back.restore_stores.Statement.{statement}
+use Rattle.viper.proofs.back.restore_stores.Tie as tie
 
 -- Refusals 1 to 3 are passed, and bytes are in use.
 reading : (c : tie.Else1) → let a = c .before .before .before .before .before .before .before .args in (0 < a .used) × (a .used ≤ length (now (a .trail)))
@@ -114,16 +115,33 @@ returns-8 c =
     let j = r .before .before .before .before .judge in
     back-broken (a .m) (now (a .main)) (now (a .ports)) (now (a .trail)) (a .used) (j .result) (j .ensures) (r .before .before .enum-told .given .1) (r .before .if1 .left) (n .newest .result) (n .newest .ensures) (c .enum-told4 .given .1)
 
-returns-9 : tie.Need-returns-9
-returns-9 c =
-    let n = c .before .before .before in
+word-restored-requires : tie.Need-word-restored-requires
+word-restored-requires c κs =
+    let g = c .before .before .before in
+    let n = g .before .before in
     let r = n .before .before .before in
     let a = r .before .before .before .before .before .before .before .before .args in
     let j = r .before .before .before .before .judge in
-    restores (a .m) (now (a .main)) (now (a .ports)) (now (a .trail)) (a .used) (j .result) (j .ensures) (r .before .before .enum-told .given .1) (r .before .if1 .left) (n .newest .result) (c .before .o .given .0 .0) (c .before .o .given .0 .1 .0) Any (n .newest .ensures) (c .before .o .given .1) tt
+    back-refits (a .m) (now (a .main)) (now (a .ports)) (now (a .trail)) (a .used) (j .result) (j .ensures) (r .before .before .enum-told .given .1) (r .before .if1 .left) (n .newest .result) (g .o .given .0 .0) (g .o .given .0 .1 .0) (n .newest .ensures) (g .o .given .1)
 
-pub find-spec : {M : Type 1} → statement M
-find-spec =
+same-length : tie.Need-same-length
+same-length c = search needs
+
+same-length-2 : tie.Need-same-length-2
+same-length-2 c = search needs
+
+returns-9 : tie.Need-returns-9
+returns-9 c =
+    let w = c .before .before .before .before in
+    let g = w .before .before .before .before in
+    let n = g .before .before in
+    let r = n .before .before .before in
+    let a = r .before .before .before .before .before .before .before .before .args in
+    let j = r .before .before .before .before .judge in
+    restores (a .m) (now (a .main)) (now (a .ports)) (now (a .trail)) (a .used) (j .result) (j .ensures) (r .before .before .enum-told .given .1) (r .before .if1 .left) (n .newest .result) (g .o .given .0 .0) (g .o .given .0 .1 .0) Any (ram (w .word-restored .last .1 .0) (w .word-restored .last .1 .1 .0)) (n .newest .ensures) (g .o .given .1) (w .word-restored .ensures) tt
+
+pub restore-stores-spec : {M : Type 1} → statement M
+restore-stores-spec =
     tie.close
     (tie.spec
     judge-requires
@@ -147,4 +165,7 @@ find-spec =
     enum-known-o
     enum-told-4
     returns-8
+    word-restored-requires
+    same-length
+    same-length-2
     returns-9)
