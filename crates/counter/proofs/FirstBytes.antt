@@ -9,7 +9,8 @@ use native.Mathlib.Nat.{zero-add, suc-add}
 use lib.Dec.{ltb}
 use lib.ListN.{take, drop}
 use lib.Seq.{take-nil}
-use Rattle.counter.specs.Routine.{digit-value, line-after, routine-of}
+use Rattle.text.specs.Digits.{digit-value}
+use Rattle.counter.specs.Routine.{line-after, routine-of}
 use Rattle.counter.specs.declared.routine.Line.{Line}
 use Rattle.counter.specs.declared.routine.Line.the-variants.{IllFormed}
 

@@ -8,8 +8,9 @@ use lib.ListN.{length, length-append}
 use Rattle.machine.specs.declared.Machine.{Machine}
 use Rattle.machine.specs.declared.Ending.{Ending}
 use Rattle.machine.specs.declared.Ending.the-variants.{Stopped, Budget, Unfitted, Full}
-use Rattle.counter.specs.Lines.{decimal, flag, name, registers, in-use}
-use Rattle.counter.proofs.Digits.{hex-length}
+use Rattle.text.specs.Digits.{decimal}
+use Rattle.counter.specs.Lines.{flag, name, registers, in-use}
+use Rattle.text.proofs.Digits.{hex-length}
 
 pub flag-length : (b : Bool) → length (flag b) ≡ 1
 flag-length true = refl

@@ -1,36 +1,18 @@
 -- Reading undoes printing: a word printed in eight hex digits, with a line feed, is read as that word. Each digit has its value again, so k of them have the number's.
 -- Assumes nothing.
-use Prim.Native.Nat.{ℕ, zero, suc, _+_, _*_, _-_, _/_, _%_, _^_, _<_}
+use Prim.Native.Nat.{ℕ, zero, suc, _+_, _*_, _/_, _%_, _^_, _<_}
 use Prim.Native.Char.{code}
-use mathlib.Core.Path.{_≡_, refl}
-use mathlib.Core.Bool.{Bool, true, false}
+use mathlib.Core.Path.{_≡_}
 use mathlib.Core.List.{List, _∷_, _++_, append-assoc}
 use native.Mathlib.Omega.{arith}
 use native.Mathlib.Nat.{zero-add}
-use lib.Dec.{ltb}
-use borrow.Author.Tests.{ltb-true, ltb-false, lt-ltb, le-leb, lt-leb}
-use Rattle.counter.specs.Lines.{digit, hex}
-use Rattle.counter.specs.Routine.{digit-value, line-after, first-line}
+use borrow.Author.Tests.{lt-ltb}
+use Rattle.text.specs.Digits.{digit, hex}
+use Rattle.text.specs.Digits.{digit-value}
+use Rattle.counter.specs.Routine.{line-after, first-line}
 use Rattle.counter.specs.declared.routine.Line.the-variants.{Word}
-use Rattle.counter.proofs.Digits.{sixteens}
-
-digit-again : (d : ℕ) → d < 16 → digit-value (digit d) ≡ d
-unfolding digit-value
-digit-again d h = go (ltb d 10) refl
-  where
-    go : (t : Bool) → ltb d 10 ≡ t → digit-value (digit d) ≡ d
-    go true e =
-        let l = ltb-true d 10 e in
-        rw (e, le-leb 48 (48 + d) (omega arith), le-leb (48 + d) 57 (omega arith)) (omega arith)
-    go false e =
-        let l = ltb-false d 10 e in
-        rw (
-          e,
-          le-leb 48 (65 + (d - 10)) (omega arith),
-          lt-leb (65 + (d - 10)) 57 (omega arith),
-          le-leb 65 (65 + (d - 10)) (omega arith),
-          le-leb (65 + (d - 10)) 70 (omega arith),
-        ) (omega arith)
+use Rattle.text.proofs.Digits.{sixteens}
+use Rattle.text.proofs.ReadBack.{digit-again}
 
 digits-again : (k j n : ℕ) (rest : List ℕ) → n < sixteens k → line-after (k + j) 0 (hex k n ++ rest) ≡ line-after j n rest
 unfolding hex

@@ -1,16 +1,17 @@
 -- Each turn of a reader decides what the definition decides there: a law for each way that a line, and then a routine, can go on.
 -- Assumes nothing.
 use Prim.Native.Nat.{ℕ, zero, suc, _+_, _*_, _-_, _<_, _≤_}
-use mathlib.Core.Path.{_≡_, refl, ap, _∙_}
+use mathlib.Core.Path.{_≡_, refl, ap, sym, _∙_}
 use mathlib.Core.Bool.{Bool, true, false}
 use mathlib.Core.List.{List, [], _∷_, _++_}
 use native.Mathlib.Omega.{arith}
 use native.Mathlib.Numerals.{add-one, sub-one}
 use lib.Dec.{ltb}
-use lib.ListN.{length, getD, take, drop, set, drop-of-length-le}
+use lib.ListN.{length, getD, take, drop, set, length-append, drop-of-length-le}
 use lib.Seq.{drop-cons, take-suc, append-snoc, set-at, length-take-le}
 use borrow.Author.Tests.{lt-ltb, le-ltb, eq-eqb, ne-eqb}
-use Rattle.counter.specs.Routine.{digit-value, line-after, first-line, Routine, words, bad, then-lines, routine-of, answer, main-after}
+use Rattle.text.specs.Digits.{digit-value}
+use Rattle.counter.specs.Routine.{line-after, first-line, Routine, words, bad, then-lines, routine-of, answer, main-after, Loads}
 use Rattle.counter.specs.declared.routine.Line.{Line}
 use Rattle.counter.specs.declared.routine.Line.the-variants.{Word, IllFormed}
 use Rattle.counter.specs.declared.routine.Loaded.{Loaded}
@@ -156,3 +157,19 @@ words-fit room text [] e = omega arith
 words-fit room text (w ∷ ws) e =
     let f = first-word room text (w ∷ ws) e (omega arith) in
     omega (arith, f .2, words-fit (room - 1) (drop 9 text) ws (f .1))
+
+-- The words loaded are within main. The two laws are what a part `&main[..n]` asks.
+module _ {text main after : List ℕ} {r : Loaded} {n : ℕ} (e : r ≡ Words n) (loads : Loads text main r after) where
+  pub loaded-within : n ≤ length after
+  loaded-within =
+      let routine = routine-of (length main) text in
+      let a : answer routine ≡ Words n = sym (loads .answer-is) ∙ e in
+      omega (
+        arith,
+        good-text routine n a .1,
+        ap length (loads .main-is ∙ good-main routine n main a),
+        length-append (words-in routine) (drop n main),
+      )
+
+  pub loaded-count : n ≡ length (take n after)
+  loaded-count = sym (length-take-le n after loaded-within)

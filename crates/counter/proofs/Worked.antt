@@ -5,9 +5,11 @@ use mathlib.Core.Bool.{true, false}
 use mathlib.Core.List.{[], _∷_}
 use Rattle.machine.specs.declared.Machine.{Machine}
 use Rattle.machine.specs.declared.Ending.the-variants.{Stopped}
-use Rattle.counter.specs.Text.{text}
-use Rattle.counter.specs.Routine.{digit-value, words, bad, routine-of}
-use Rattle.counter.specs.Lines.{decimal-in, decimal, hex, registers, in-use, run-line, back-line, bad-line}
+use Rattle.text.specs.Text.{text}
+use Rattle.text.specs.Digits.{digit-value}
+use Rattle.counter.specs.Routine.{words, bad, routine-of}
+use Rattle.text.specs.Digits.{decimal-in, decimal, hex}
+use Rattle.counter.specs.Lines.{registers, in-use, run-line, back-line, bad-line}
 
 abbrev pub stopped : Machine
 stopped = record { a = 5; x = 0; y = 0; p = 4; b = true; stop = true }

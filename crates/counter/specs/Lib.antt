@@ -1,4 +1,2 @@
 pub mod Lines
-pub mod Placed
 pub mod Routine
-pub mod Text

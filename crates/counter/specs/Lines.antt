@@ -1,34 +1,13 @@
 -- The lines that bench prints (document 01, "The counter program"), byte for byte.
 -- Assumes nothing.
-use Prim.Native.Nat.{ℕ, zero, suc, _+_, _-_, _/_, _%_}
-use Prim.Native.Char.{code}
-use mathlib.Core.Bool.{Bool, true, false, cond}
-use mathlib.Core.List.{List, [], _∷_, _++_}
-use lib.Dec.{ltb}
+use Prim.Native.Nat.{ℕ}
+use mathlib.Core.Bool.{Bool, true, false}
+use mathlib.Core.List.{List, _++_}
 use Rattle.machine.specs.declared.Machine.{Machine}
 use Rattle.machine.specs.declared.Ending.{Ending}
 use Rattle.machine.specs.declared.Ending.the-variants.{Stopped, Budget, Unfitted, Full}
-use Rattle.counter.specs.Text.{text}
-
--- The digit of a value below 16: 0-9, then A-F.
-abbrev pub digit : ℕ → ℕ
-digit value = cond (ltb value 10) (code "0" + value) (code "A" + (value - 10))
-
--- n in decimal, where k is at least n.
-unfoldable pub decimal-in : ℕ → ℕ → List ℕ
-decimal-in zero n = digit n ∷ []
-decimal-in (suc k) n =
-    let longer = decimal-in k (n / 10) ++ (digit (n % 10) ∷ []) in
-    cond (ltb n 10) (digit n ∷ []) longer
-
--- n in decimal, with no leading zero.
-unfoldable pub decimal : ℕ → List ℕ
-decimal n = decimal-in n n
-
--- The last digits of n in hex, as many as the width says.
-unfoldable pub hex : ℕ → ℕ → List ℕ
-hex zero n = []
-hex (suc width) n = hex width (n / 16) ++ (digit (n % 16) ∷ [])
+use Rattle.text.specs.Text.{text}
+use Rattle.text.specs.Digits.{decimal, hex}
 
 -- B and STOP.
 abbrev pub flag : Bool → List ℕ

@@ -1,23 +1,17 @@
 -- A routine as text (document 01, "The counter program"): lines of eight hex digits and a line feed, loaded from main address 0.
 -- Assumes nothing.
-use Prim.Native.Nat.{ℕ, zero, suc, _+_, _*_, _-_}
+use Prim.Native.Nat.{ℕ, zero, suc, _+_, _*_}
 use Prim.Native.Char.{code}
 use mathlib.Core.Path.{_≡_}
-use mathlib.Core.Bool.{cond, _&&_}
+use mathlib.Core.Bool.{cond}
 use mathlib.Core.List.{List, [], _∷_, _++_}
-use lib.Dec.{leb, ltb, eqb}
+use lib.Dec.{ltb, eqb}
 use lib.ListN.{length, drop}
+use Rattle.text.specs.Digits.{digit-value}
 use Rattle.counter.specs.declared.routine.Line.{Line}
 use Rattle.counter.specs.declared.routine.Line.the-variants.{Word, IllFormed}
 use Rattle.counter.specs.declared.routine.Loaded.{Loaded}
 use Rattle.counter.specs.declared.routine.Loaded.the-variants.{Words, BadLine}
-
--- The value of a hex digit, 0-9 or A-F; a byte that is none has 16.
-unfoldable pub digit-value : ℕ → ℕ
-digit-value b =
-    cond (leb (code "0") b && leb b (code "9")) (b - code "0")
-    (cond (leb (code "A") b && leb b (code "F")) (b - code "A" + 10)
-    16)
 
 -- A line of which k digits and the line feed are still to come, after digits of value v.
 abbrev pub line-after : ℕ → ℕ → List ℕ → Line

@@ -1,67 +1,18 @@
 // Printing (document 01, "The counter program"): the lines of bench, each put at the start of a buffer.
 use machine::Ending;
 use machine::Machine;
-ghost use Prim.Native.Nat.{_+_, _≤_, _<_};
-ghost use mathlib.Core.Path.{_≡_};
-ghost use mathlib.Core.List.{[], _∷_, _++_};
+use text::put_byte;
+use text::put_decimal;
+use text::put_hex;
+use text::put_text;
+ghost use Prim.Native.Nat.{_+_, _≤_};
+ghost use mathlib.Core.List.{_++_};
 ghost use lib.ListN.{length};
-ghost use Rattle.counter.specs.Lines.{digit, decimal, hex, flag, name, registers, in-use, run-line, back-line, bad-line};
-ghost use Rattle.counter.specs.Placed.{Placed};
+ghost use Rattle.text.specs.Digits.{hex};
+ghost use Rattle.text.specs.Placed.{Placed};
+ghost use Rattle.counter.specs.Lines.{flag, name, registers, in-use, run-line, back-line, bad-line};
 
 // Each function that puts something into the buffer from a place on answers the place after it.
-
-fn put_byte(out: &mut [u8], at: usize, byte: u8) -> usize
-    requires { ⌜ at < length (now out) ⌝ }
-    ensures { λ r. ⌜ Placed at (byte ∷ []) (now (out .entry)) r (now (out .exit)) ⌝ }
-{
-    out[at] = byte;
-    at + 1
-}
-
-fn put_text(out: &mut [u8], at: usize, text: &[u8]) -> usize
-    requires { ⌜ at + length (now text) ≤ length (now out) ⌝ }
-    ensures { λ r. ⌜ Placed at (now (text .entry)) (now (out .entry)) r (now (out .exit)) ⌝ }
-{
-    let mut i: usize = 0;
-    while i < text.len() {
-        out[at + i] = text[i];
-        i += 1;
-    }
-    at + i
-}
-
-// The digit of a value below 16.
-fn digit_of(value: usize) -> u8
-    requires { ⌜ value < 16 ⌝ }
-    ensures { λ r. ⌜ r ≡ digit value ⌝ }
-{
-    if value < 10 {
-        return b'0' + value as u8;
-    }
-    b'A' + (value - 10) as u8
-}
-
-fn put_decimal(out: &mut [u8], at: usize, n: usize) -> usize
-    requires { ⌜ at + length (decimal n) ≤ length (now out) ⌝ }
-    ensures { λ r. ⌜ Placed at (decimal n) (now (out .entry)) r (now (out .exit)) ⌝ }
-{
-    if n < 10 {
-        return put_byte(out, at, digit_of(n));
-    }
-    let last = put_decimal(out, at, n / 10);
-    put_byte(out, last, digit_of(n % 10))
-}
-
-fn put_hex(out: &mut [u8], at: usize, width: usize, n: usize) -> usize
-    requires { ⌜ at + width ≤ length (now out) ⌝ }
-    ensures { λ r. ⌜ Placed at (hex width n) (now (out .entry)) r (now (out .exit)) ⌝ }
-{
-    if width == 0 {
-        return at;
-    }
-    let last = put_hex(out, at, width - 1, n / 16);
-    put_byte(out, last, digit_of(n % 16))
-}
 
 fn put_register(out: &mut [u8], at: usize, label: &[u8], width: usize, value: u32) -> usize
     requires { ⌜ at + (length (now label) + width) ≤ length (now out) ⌝ }

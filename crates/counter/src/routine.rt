@@ -1,8 +1,9 @@
 // Reading a routine (document 01, "The counter program"): lines of eight hex digits and a line feed, loaded from main address 0.
+use text::digit_value;
 ghost use mathlib.Core.Path.{_≡_};
 ghost use Prim.Native.Nat.{_≤_};
 ghost use lib.ListN.{length, drop};
-ghost use Rattle.counter.specs.Routine.{digit-value, first-line, routine-of, answer, main-after, Loads};
+ghost use Rattle.counter.specs.Routine.{first-line, routine-of, answer, main-after, Loads};
 
 // What a line holds.
 pub enum Line {
@@ -14,17 +15,6 @@ pub enum Line {
 pub enum Loaded {
     Words(usize),
     BadLine(usize),
-}
-
-// The value of a hex digit, or 16 for a byte that is none.
-fn digit_value(byte: u8) -> u32
-    ensures { λ r. ⌜ r ≡ digit-value byte ⌝ }
-{
-    match byte {
-        b'0'..=b'9' => (byte - b'0') as u32,
-        b'A'..=b'F' => (byte - b'A') as u32 + 10,
-        _ => 16,
-    }
 }
 
 // The line that starts at a place of the text.

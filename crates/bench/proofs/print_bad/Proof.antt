@@ -1,7 +1,7 @@
 -- The line's length is within the buffer: the line stands at its start.
 -- Assumes nothing.
 use borrow.Author.Needs.{needs}
-use Rattle.counter.proofs.Placing.{printed-within, printed-count}
+use Rattle.text.proofs.Placing.{printed-within, printed-count}
 use Rattle.bench.proofs.print_bad.Statement.{statement}
 use Rattle.bench.proofs.print_bad.Tie as tie
 

@@ -2,8 +2,8 @@
 -- Assumes nothing.
 use native.Mathlib.Omega.{arith}
 use Rattle.counter.specs.Lines.{bad-line}
-use Rattle.counter.proofs.Digits.{twenty-digits}
-use Rattle.counter.proofs.Placing.{put-then}
+use Rattle.text.proofs.Digits.{twenty-digits}
+use Rattle.text.proofs.Placing.{put-then}
 use borrow.Author.Needs.{needs}
 use Rattle.counter.proofs.lines.bad_line.Statement.{statement}
 use Rattle.counter.proofs.lines.bad_line.Tie as tie

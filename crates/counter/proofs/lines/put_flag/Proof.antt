@@ -1,7 +1,7 @@
 -- The label and then the digit of the branch.
 -- Assumes nothing.
 use native.Mathlib.Omega.{arith}
-use Rattle.counter.proofs.Placing.{put-then}
+use Rattle.text.proofs.Placing.{put-then}
 use borrow.Author.Needs.{needs}
 use Rattle.counter.proofs.lines.put_flag.Statement.{statement}
 use Rattle.counter.proofs.lines.put_flag.Tie as tie

@@ -3,7 +3,7 @@
 use native.Mathlib.Omega.{arith}
 use Rattle.counter.specs.Lines.{in-use}
 use Rattle.counter.proofs.Lengths.{in-use-length}
-use Rattle.counter.proofs.Placing.{put-then}
+use Rattle.text.proofs.Placing.{put-then}
 use borrow.Author.Needs.{needs}
 use Rattle.counter.proofs.lines.put_in_use.Statement.{statement}
 use Rattle.counter.proofs.lines.put_in_use.Tie as tie

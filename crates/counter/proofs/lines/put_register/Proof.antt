@@ -1,7 +1,7 @@
 -- The label and then the digits.
 -- Assumes nothing.
 use native.Mathlib.Omega.{arith}
-use Rattle.counter.proofs.Placing.{put-then}
+use Rattle.text.proofs.Placing.{put-then}
 use borrow.Author.Needs.{needs}
 use Rattle.counter.proofs.lines.put_register.Statement.{statement}
 use Rattle.counter.proofs.lines.put_register.Tie as tie

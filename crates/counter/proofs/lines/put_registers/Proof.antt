@@ -4,9 +4,9 @@ use Prim.Native.Nat.{_+_, _≤_}
 use native.Mathlib.Omega.{arith}
 use lib.ListN.{length}
 use Rattle.counter.specs.Lines.{registers}
-use Rattle.counter.proofs.Digits.{hex-length}
+use Rattle.text.proofs.Digits.{hex-length}
 use Rattle.counter.proofs.Lengths.{flag-length, registers-length}
-use Rattle.counter.proofs.Placing.{room-after, put-then}
+use Rattle.text.proofs.Placing.{room-after, put-then}
 use borrow.Author.Needs.{needs}
 use Rattle.counter.proofs.lines.put_registers.Statement.{statement}
 use Rattle.counter.proofs.lines.put_registers.Tie as tie

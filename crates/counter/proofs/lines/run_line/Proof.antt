@@ -4,9 +4,9 @@ use Prim.Native.Nat.{_+_, _≤_}
 use native.Mathlib.Omega.{arith}
 use lib.ListN.{length}
 use Rattle.counter.specs.Lines.{run-line}
-use Rattle.counter.proofs.Digits.{twenty-digits}
+use Rattle.text.proofs.Digits.{twenty-digits}
 use Rattle.counter.proofs.Lengths.{name-length, registers-length, in-use-length}
-use Rattle.counter.proofs.Placing.{put-then}
+use Rattle.text.proofs.Placing.{put-then}
 use borrow.Author.Needs.{needs}
 use Rattle.counter.proofs.lines.run_line.Statement.{statement}
 use Rattle.counter.proofs.lines.run_line.Tie as tie

@@ -6,8 +6,9 @@ use native.Mathlib.Omega.{arith}
 use native.Mathlib.Numerals.{add-one}
 use borrow.Author.Needs.{needs}
 use lib.ListN.{length, drop}
-use Rattle.counter.specs.Routine.{digit-value, line-after, first-line}
-use Rattle.counter.proofs.Digits.{sixteens, sixteens-grow}
+use Rattle.text.specs.Digits.{digit-value}
+use Rattle.counter.specs.Routine.{line-after, first-line}
+use Rattle.text.proofs.Digits.{sixteens, sixteens-grow}
 use Rattle.counter.proofs.Reading.{line-ends, no-digit, one-digit, line-feed, no-line-feed}
 use Rattle.counter.proofs.routine.line_at.Statement.{statement}
 use Rattle.counter.proofs.routine.line_at.Tie as tie

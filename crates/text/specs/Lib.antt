@@ -1,0 +1,4 @@
+pub mod Digits
+pub mod Placed
+pub mod Stands
+pub mod Text
