@@ -34,7 +34,7 @@ use Rattle.viper.specs.declared.Outcome.{Outcome}
 use Rattle.viper.specs.Told.{bench, told}
 use Rattle.viper.specs.Operations as operations
 use Rattle.step.specs.Phases.{lacks, step-unfitted}
-use Rattle.viper.specs.Operations.{Bench, Operation, step, reset, force, set-word, operate, next, writes-at, record-for, unfitted, applies, outcome}
+use Rattle.viper.specs.Operations.{Bench, Operation, step, reset, force, set-word, operate, next, kind-of, writes-at, record-for, unfitted, applies, outcome}
 use Rattle.demands.specs.Histories.{Valid}
 use Rattle.demands.proofs.FirstDemand.{LawfulBench, lawful-passes, refused-lowest, accepted-none}
 use Rattle.demands.proofs.Undoing.{nothing-lacks, touched, undoes}
@@ -130,8 +130,8 @@ writes-nowhere-else s ok f = touched step s ok (unfitted-or-not s .1 f)
 pub record ReadsBack (e : Operation) (s : State) : Type 0 where
   pub newest : (before beyond : List ℕ)
       → newest-fitted (length (next e s .0 .main)) (length (next e s .0 .ports)) (before ++ (record-for e s ++ beyond)) (length before + length (record-for e s))
-      ≡ Record (old-values-of s (next e s) (writes-at e s)) (length before)
-  pub back : restored (old-values-of s (next e s) (writes-at e s)) (next e s) ≡ s
+      ≡ Record (old-values-of (kind-of e) s (next e s) (writes-at e s)) (length before)
+  pub back : restored (old-values-of (kind-of e) s (next e s) (writes-at e s)) (next e s) ≡ s
 
 -- So does the record of every operation that is fitted, on a valid machine.
 pub reads-back : (e : Operation) (s : State) → Valid s → unfitted (operate e) s ≡ false → ReadsBack e s
@@ -191,12 +191,12 @@ step-little s g = rw (next-by-parts s g) (part-little (part s) (word s) s)
 
 -- The most bytes of a record of each operation.
 abbrev pub longest : Operation → ℕ
-longest step = 13
-longest reset = 20
-longest force = 5
-longest (set-word q v) = 13
+longest step = 14
+longest reset = 21
+longest force = 6
+longest (set-word q v) = 14
 
--- A step's record has at most 13 bytes, a set's 13, a reset's 20, a force's 5.
+-- A step's record has at most 14 bytes, a set's 14, a reset's 21, a force's 6.
 pub at-most : (e : Operation) (s : State) → Valid s → unfitted (operate e) s ≡ false → length (record-for e s) ≤ longest e
 at-most step s ok h = omega (arith, undoes step s ok h .short, step-little s (ok .range) .few)
 at-most reset s ok h = omega (arith, undoes reset s ok h .short, registers-three (machine-of s) (machine-of (next reset s)))

@@ -25,7 +25,7 @@ use Rattle.viper.specs.declared.Refusal.the-variants.{PTooLarge, StoreTooLong, 
 use Rattle.viper.specs.declared.Answer.{Answer}
 use Rattle.viper.specs.declared.Answer.the-variants.{Done, Refused}
 use Rattle.viper.specs.Refusals.{number, if-done}
-use Rattle.viper.specs.Operations.{Bench, Operation, step, Call, operate, run, back, next, writes-at, record-for, unfitted, broken, newest-of, applies, answer, done, Outcome, outcome}
+use Rattle.viper.specs.Operations.{Bench, Operation, step, Call, operate, run, back, next, kind-of, writes-at, record-for, unfitted, broken, newest-of, applies, answer, done, Outcome, outcome}
 use Rattle.viper.specs.Runs.{Ran, ends, stepped, unless-stopped, over-and-over, RunOutcome, run-by, run-outcome}
 use Rattle.viper.specs.TakingBack.{put-back, back-outcome}
 use Rattle.demands.specs.Histories.{Valid, Typed, TypedCalls, answered, called, after, noted, noted-run, struck, back-by, listing, listed-from, listed, through, trace, Sizes, History, Session, begins, operates, runs, takes-back}
@@ -223,13 +223,13 @@ module _ (b₀ : Bench) (ok : Valid (b₀ .state)) where
     valid-then = through-valid l (b₀ .state) ok (k .fair .2)
 
     -- the newest record is that of the newest operation listed
-    newest-is : newest-of b ≡ Record (old-values-of was (next e was) (writes-at e was)) (length (trace l (b₀ .state)))
+    newest-is : newest-of b ≡ Record (old-values-of (kind-of e) was (next e was) (writes-at e was)) (length (trace l (b₀ .state)))
     newest-is =
         let h = k .history in
         let u = undoes e was valid-then (k .fair .0) in
         newest-in-use _ _ (b .trail) (b .used) (trace l (b₀ .state)) (h .within) (h .in-use) (u .good) (rw (h .state) (u .fitting))
 
-    restores : restored (old-values-of was (next e was) (writes-at e was)) (b .state) ≡ was
+    restores : restored (old-values-of (kind-of e) was (next e was) (writes-at e was)) (b .state) ≡ was
     restores = rw (k .history .state) (undoes e was valid-then (k .fair .0) .back)
 
     in-use-length : length (trace l (b₀ .state)) + length (record-for e was) ≡ b .used

@@ -15,10 +15,10 @@ use Rattle.report.proofs.Stores.{either-false, fitted-low, placed-stores}
 use Rattle.report.proofs.Order.{next-by-parts}
 use Rattle.report.proofs.RangeKept.{next-in-range, put-main, put-ports}
 use Rattle.machine.specs.Held.{where-of}
-use Rattle.trail.specs.Records.{record-bytes}
+use Rattle.trail.specs.Records.{record-in, record-bytes}
 use Rattle.trail.proofs.RecordRestores.{Touched, kept, put, main-kept, ports-kept, Restores, record-restores}
 use Rattle.step.specs.Phases.{lacks, step-unfitted}
-use Rattle.viper.specs.Operations.{Operation, step, reset, force, set-word, operate, next, writes-at, record-for, unfitted}
+use Rattle.viper.specs.Operations.{Operation, step, reset, force, set-word, operate, next, kind-of, writes-at, record-for, unfitted}
 use Rattle.demands.specs.Histories.{Valid, Typed}
 
 -- ---- the stores after an operation
@@ -80,10 +80,10 @@ stays-valid e s t ok h =
 -- ---- the record of an operation
 
 -- It restores the state before it.
-pub undoes : (e : Operation) (s : State) → Valid s → unfitted (operate e) s ≡ false → Restores s (next e s) (writes-at e s)
-undoes e s ok h = record-restores s (next e s) (writes-at e s) (ok .range) (touched e s ok h)
+pub undoes : (e : Operation) (s : State) → Valid s → unfitted (operate e) s ≡ false → Restores (kind-of e) s (next e s) (writes-at e s)
+undoes e s ok h = record-restores (kind-of e) s (next e s) (writes-at e s) (ok .range) (touched e s ok h)
 
 -- It has some bytes.
 pub some-bytes : (e : Operation) (s : State) → 0 < length (record-for e s)
-unfolding record-bytes
+unfolding record-in
 some-bytes e s = simp length-append (omega arith)

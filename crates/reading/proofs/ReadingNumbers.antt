@@ -18,7 +18,7 @@ use Rattle.reading.specs.declared.numbers.Number.the-variants.{Got, Brok
 use Rattle.trail.specs.Numbers.{Read, got, broken, bytes-if, read-in, read-below, read-if}
 use Rattle.reading.specs.Finding.{number-of}
 use Rattle.reading.specs.Finding.{read-at, found-of}
-use Rattle.trail.specs.Newest.{and-then, at-end, read-from-marks, read-record, leaving}
+use Rattle.trail.specs.Newest.{and-then, at-end, read-from-marks, read-in-form, leaving}
 use Rattle.trail.proofs.NumbersReadBack.{read-if-only}
 use Rattle.reading.proofs.ReadingGroups.{no-bytes, over-large}
 
@@ -87,27 +87,31 @@ abbrev pub from : ℕ → ℕ → List ℕ → (List ℕ → Option OldValues) �
 from at end s f = cond (ltb end at) none (f (slice at end s))
 
 -- The record of the bytes from start to end is read up to `at`; `rest` reads on from there, unless that is past the end.
-pub record Upto (s : List ℕ) (start end at : ℕ) : Type 0 where
+pub record Upto (kinds : Bool) (s : List ℕ) (start end at : ℕ) : Type 0 where
   pub rest : List ℕ → Option OldValues
-  pub whole : read-record (2 ^ 21) (slice start end s) ≡ from at end s rest
+  pub whole : read-in-form kinds (2 ^ 21) (slice start end s) ≡ from at end s rest
   pub inside : at ≤ end + 1
   pub fits : end < length s
 
-pub opened : (places : ℕ) (s : List ℕ) → read-record places s ≡ read-from-marks places s
-unfolding read-record
-opened places s = refl
+-- The kind comes first, in the new form.
+abbrev pub from-kind : Bool → List ℕ → Option OldValues
+from-kind kinds s = and-then (read-if kinds 5 s) (λ kind s₁. read-from-marks kind (2 ^ 21) s₁)
 
-abbrev pub starts : (s : List ℕ) (start end : ℕ) → start ≤ end → end < length s → Upto s start end start
-starts s start end h l =
+pub opened : (kinds : Bool) (s : List ℕ) → read-in-form kinds (2 ^ 21) s ≡ from-kind kinds s
+unfolding read-in-form
+opened kinds s = refl
+
+abbrev pub starts : (kinds : Bool) (s : List ℕ) (start end : ℕ) → start ≤ end → end < length s → Upto kinds s start end start
+starts kinds s start end h l =
     record {
-      rest = read-from-marks (2 ^ 21);
-      whole = opened (2 ^ 21) (slice start end s) ∙ rw (le-ltb end start h);
+      rest = from-kind kinds;
+      whole = opened kinds (slice start end s) ∙ rw (le-ltb end start h);
       inside = omega arith;
       fits = l;
     }
 
 -- The next number is the one of the mark t and the bound, and f goes on with it; r is what the code found for it.
-module _ {s : List ℕ} {start end at : ℕ} (g : Upto s start end at) (t : Bool) (bound : ℕ) (f : ℕ → List ℕ → Option OldValues) (k : g .rest (slice at end s) ≡ and-then (read-if t bound (slice at end s)) f) where
+module _ {kinds : Bool} {s : List ℕ} {start end at : ℕ} (g : Upto kinds s start end at) (t : Bool) (bound : ℕ) (f : ℕ → List ℕ → Option OldValues) (k : g .rest (slice at end s) ≡ and-then (read-if t bound (slice at end s)) f) where
   pub stepped : {r : Found} → r ≡ found-of end (read-at at end s t bound) → (from at end s (g .rest) ≡ from (r .next) end s (f (r .n))) × (r .next ≤ end + 1)
   stepped {r} p = go (ltb end at) refl p
     where
@@ -133,18 +137,18 @@ module _ {s : List ℕ} {start end at : ℕ} (g : Upto s start end at) (t : Bool
           (none-after v, omega arith)
       go false h q = rw k (found (read-if t bound (slice at end s)) refl h q)
 
-  abbrev pub step : {r : Found} → r ≡ found-of end (read-at at end s t bound) → Upto s start end (r .next)
+  abbrev pub step : {r : Found} → r ≡ found-of end (read-at at end s t bound) → Upto kinds s start end (r .next)
   step {r} p =
       record { rest = f (r .n); whole = g .whole ∙ stepped p .0; inside = stepped p .1; fits = g .fits }
 
 -- All numbers are read: the record is whole if the place after the last is its end.
-module _ {s : List ℕ} {start end at : ℕ} (g : Upto s start end at) (o : OldValues) (k : g .rest (slice at end s) ≡ at-end (slice at end s) o) where
-  pub done : at ≡ end → newest.Record o start ≡ leaving start (read-record (2 ^ 21) (slice start end s))
+module _ {kinds : Bool} {s : List ℕ} {start end at : ℕ} (g : Upto kinds s start end at) (o : OldValues) (k : g .rest (slice at end s) ≡ at-end (slice at end s) o) where
+  pub done : at ≡ end → newest.Record o start ≡ leaving start (read-in-form kinds (2 ^ 21) (slice start end s))
   done h =
       let none-left : slice at end s ≡ [] = no-bytes (slice at end s) (length-slice at end s (omega (arith, g .fits)) ∙ omega arith) in
       rw (g .whole, le-ltb end at (omega arith), k, none-left)
 
-  pub not-done : (at ≡ end → ⊥) → newest.Broken ≡ leaving start (read-record (2 ^ 21) (slice start end s))
+  pub not-done : (at ≡ end → ⊥) → newest.Broken ≡ leaving start (read-in-form kinds (2 ^ 21) (slice start end s))
   not-done h = rw (g .whole) (go (ltb end at) refl)
     where
       go : (t : Bool) → ltb end at ≡ t → newest.Broken ≡ leaving start (cond t none (g .rest (slice at end s)))

@@ -1,7 +1,7 @@
 -- What the code says of a number that it read, and of the numbers of a record, read one after another: where one is broken, every place after it
 -- is past the end.
 -- Assumes nothing.
-use Prim.Native.Nat.{ℕ, _+_, _-_, _%_, _≤_}
+use Prim.Native.Nat.{ℕ, _+_, _-_, _%_, _^_, _≤_}
 use mathlib.Core.Path.{_≡_}
 use mathlib.Core.Bool.{Bool, cond}
 use mathlib.Core.List.{List}
@@ -9,6 +9,7 @@ use lib.Dec.{ltb}
 use lib.ListN.{length}
 use lib.Seq.{slice}
 use Rattle.trail.specs.Numbers.{Read, got, broken, read-if}
+use Rattle.trail.specs.Newest.{leaving, read-from-marks}
 use Rattle.trail.specs.declared.OldValues.{OldValues}
 use Rattle.trail.specs.declared.Newest.{Newest}
 use Rattle.trail.specs.declared.Newest.the-variants as newest
@@ -37,11 +38,15 @@ pub record Holds (n : Newest) (o : OldValues) (left weights : ℕ) : Type 0 wher
   pub holds : n ≡ newest.Record o left
   pub marks : o .marks % 16 ≡ weights
 
--- What a short record says of the newest one, by its L: where four bytes or more stand before L, that alone.
+-- The newest record, by its kind and the k bytes after it that stand before L, which is at `end`.
+abbrev pub after-kind : ℕ → List ℕ → ℕ → ℕ → Newest
+after-kind kind s end k = leaving (end - k - 1) (read-from-marks kind (2 ^ 21) (slice (end - k) end s))
+
+-- What a short record says of the newest one, by its L: where five bytes or more stand before L, that alone.
 abbrev pub Says : ℕ → ShortRecord → Newest → Type 0
 Says l (short.Kept o left) n = Holds n o left 0
 Says l (short.A o left) n = Holds n o left 1
 Says l (short.X o left) n = Holds n o left 2
 Says l (short.Y o left) n = Holds n o left 4
 Says l short.Broken n = n ≡ newest.Broken
-Says l short.Longer n = 4 ≤ l
+Says l short.Longer n = 5 ≤ l

@@ -9,10 +9,14 @@ ghost use Prim.Native.Nat.{_+_, _^_, _<_, _≤_};
 ghost use lib.ListN.{length};
 ghost use lib.Seq.{slice};
 ghost use Rattle.reading.specs.Finding.{found-of, read-at};
-ghost use Rattle.trail.specs.Newest.{leaving, read-record, newest-fitted};
+ghost use Rattle.trail.specs.Newest.{leaving, read-in-form, newest-fitted};
 
-// The bounds of what is read: L, the marks, P, the number of a place, and a register or a word.
-const LENGTHS: u64 = 28;
+// The bounds of what is read: L, a kind, the marks, P, the number of a place, and a register or a word.
+const LENGTHS: u64 = 29;
+
+pub(crate) const SHORTEST: usize = 3;
+
+pub(crate) const KINDS: u64 = 5;
 
 pub(crate) const MARKS: u64 = 64;
 
@@ -24,8 +28,8 @@ const WORDS: u64 = 4_294_967_296;
 
 // What reading a number of a record finds: its value, and the place after it, which is past the record's end if it is broken.
 struct Found {
-    n: u32,
-    next: usize,
+    pub n: u32,
+    pub next: usize,
 }
 
 // The number below `bound` that stands at `at` and ends before `end`, if it is marked; else 0, and no byte is read.
@@ -46,13 +50,14 @@ fn read_if(marked: bool, bytes: &[u8], at: usize, end: usize, bound: u64) -> Fou
     Found { n, next }
 }
 
-// The record whose bytes before L stand from `start` to `end`. Whether a number is broken is asked once, after the last.
-fn read_record(bytes: &[u8], start: usize, end: usize) -> Newest
+// The record whose bytes before L stand from `start` to `end`, in the new form, whose first number is the kind, or in the old one. Whether a number
+// is broken is asked once, after the last.
+pub fn read_record(kinds: bool, bytes: &[u8], start: usize, end: usize) -> Newest
     requires { ⌜ (start ≤ end) × (end < length (now bytes)) ⌝ }
-    ensures { λ r. ⌜ r ≡ leaving start (read-record (2 ^ 21) (slice start end (now (bytes .entry)))) ⌝ }
+    ensures { λ r. ⌜ r ≡ leaving start (read-in-form kinds (2 ^ 21) (slice start end (now (bytes .entry)))) ⌝ }
 {
-    // Nothing stands before the marks.
-    let m = read_if(true, bytes, start, end, MARKS);
+    let kind = read_if(kinds, bytes, start, end, KINDS);
+    let m = read_if(true, bytes, kind.next, end, MARKS);
     let p = read_if(true, bytes, m.next, end, ADDRESSES);
     let a = read_if(m.n / 1 % 2 == 1, bytes, p.next, end, WORDS);
     let x = read_if(m.n / 2 % 2 == 1, bytes, a.next, end, WORDS);
@@ -61,6 +66,7 @@ fn read_record(bytes: &[u8], start: usize, end: usize) -> Newest
     let value = read_if(m.n / 8 % 2 == 1, bytes, place.next, end, WORDS);
     if value.next == end {
         let o = OldValues {
+            kind: kind.n,
             marks: m.n,
             p: p.n,
             a: a.n,
@@ -80,18 +86,18 @@ pub fn newest(trail: &[u8], used: usize, main: usize, ports: usize) -> Newest
     ensures { λ r. ⌜ r ≡ newest-fitted main ports (now (trail .entry)) used ⌝ }
 {
     let end = used - 1;
-    // The last byte in use is L. It is below 28, and so a number of one group.
+    // The last byte in use is L. It is below 29, and so a number of one group.
     let Number::Got(l, _) = read_number(trail, end, used, LENGTHS) else {
         return Newest::Broken;
     };
     let n = l as usize;
-    if n < 2 {
+    if n < SHORTEST {
         return Newest::Broken;
     }
     if end < n {
         return Newest::Broken;
     }
-    let Newest::Record(o, left) = read_record(trail, end - n, end) else {
+    let Newest::Record(o, left) = read_record(true, trail, end - n, end) else {
         return Newest::Broken;
     };
     if o.marks / 8 % 2 == 1 {

@@ -5,5 +5,8 @@ mod reader;
 mod short;
 
 pub use from_end::newest;
+pub use from_end::read_record;
+pub use numbers::Number;
+pub use reader::read_number;
 pub use short::ShortRecord;
 pub use short::read_short;

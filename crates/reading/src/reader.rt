@@ -41,7 +41,7 @@ pub(crate) fn next_number<'a>(r: TrailReader<'a>, end: usize, bound: u64) -> Num
 }
 
 // The same with plain parameters, so that no caller needs a walk: whatever take back reads of a trail, L too, it reads by this.
-pub(crate) fn read_number(bytes: &[u8], place: usize, end: usize, bound: u64) -> Number
+pub fn read_number(bytes: &[u8], place: usize, end: usize, bound: u64) -> Number
     requires { ⌜ (end ≤ length (now bytes)) × (bound ≤ 2 ^ 32) ⌝ }
     ensures { λ n. ⌜ n ≡ number-of end (read-below bound (slice place end (now (bytes .entry)))) ⌝ }
 {

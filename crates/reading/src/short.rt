@@ -1,17 +1,19 @@
-// The newest record where two or three bytes stand before L: most steps add such a one. Its numbers stand at known places, so they are not read
+// The newest record where three or four bytes stand before L, its kind first: most steps add such a one. Its numbers stand at known places, so they are not read
 // one after another, and taking it back is quick. No trail byte is written here.
 use crate::from_end::ADDRESSES;
+use crate::from_end::KINDS;
 use crate::from_end::MARKS;
+use crate::from_end::SHORTEST;
 use crate::numbers::Number;
 use crate::reader::read_number;
 use trail::OldValues;
 ghost use Prim.Native.Nat.{ℕ, _-_, _^_, _<_, _≤_};
 ghost use lib.ListN.{length, getD};
-ghost use Rattle.trail.specs.Newest.{before-L, newest-fitted};
-ghost use Rattle.reading.specs.Finding.{Says};
+ghost use Rattle.trail.specs.Newest.{newest-fitted};
+ghost use Rattle.reading.specs.Finding.{Says, after-kind};
 
 // The bounds of an L so small, and of a number of one group.
-const SHORT: u64 = 4;
+const SHORT: u64 = 5;
 
 const GROUP: u64 = 128;
 
@@ -26,14 +28,11 @@ pub enum ShortRecord {
     Longer,
 }
 
-// Marks and P, each one byte: nothing is marked.
-fn two_bytes(trail: &[u8], end: usize) -> ShortRecord
-    requires { ⌜ end < length (now trail) ⌝ }
-    ensures { λ r. ⌜ Says 2 r (before-L (2 ^ 21) (now (trail .entry)) end 2) ⌝ }
+// After the kind, marks and P, each one byte: nothing is marked.
+fn two_bytes(kind: u32, trail: &[u8], end: usize) -> ShortRecord
+    requires { ⌜ (3 ≤ end) × (end < length (now trail)) ⌝ }
+    ensures { λ r. ⌜ Says 3 r (after-kind kind (now (trail .entry)) end 2) ⌝ }
 {
-    if end < 2 {
-        return ShortRecord::Broken;
-    }
     let start = end - 2;
     let Number::Got(marks, _) = read_number(trail, start, start + 1, MARKS) else {
         return ShortRecord::Broken;
@@ -45,6 +44,7 @@ fn two_bytes(trail: &[u8], end: usize) -> ShortRecord
         return ShortRecord::Broken;
     };
     let o = OldValues {
+        kind,
         marks,
         p,
         a: 0,
@@ -53,17 +53,14 @@ fn two_bytes(trail: &[u8], end: usize) -> ShortRecord
         place: 0,
         value: 0,
     };
-    ShortRecord::Kept(o, start)
+    ShortRecord::Kept(o, start - 1)
 }
 
-// Marks and P in two bytes, if nothing is marked; else marks, P and the only value, each one byte.
-fn three_bytes(trail: &[u8], end: usize) -> ShortRecord
-    requires { ⌜ end < length (now trail) ⌝ }
-    ensures { λ r. ⌜ Says 3 r (before-L (2 ^ 21) (now (trail .entry)) end 3) ⌝ }
+// After the kind, marks and P in two bytes, if nothing is marked; else marks, P and the only value, each one byte.
+fn three_bytes(kind: u32, trail: &[u8], end: usize) -> ShortRecord
+    requires { ⌜ (4 ≤ end) × (end < length (now trail)) ⌝ }
+    ensures { λ r. ⌜ Says 4 r (after-kind kind (now (trail .entry)) end 3) ⌝ }
 {
-    if end < 3 {
-        return ShortRecord::Broken;
-    }
     let start = end - 3;
     let Number::Got(marks, _) = read_number(trail, start, start + 1, MARKS) else {
         return ShortRecord::Broken;
@@ -75,6 +72,7 @@ fn three_bytes(trail: &[u8], end: usize) -> ShortRecord
         };
         if next == end {
             let o = OldValues {
+                kind,
                 marks,
                 p,
                 a: 0,
@@ -83,7 +81,7 @@ fn three_bytes(trail: &[u8], end: usize) -> ShortRecord
                 place: 0,
                 value: 0,
             };
-            return ShortRecord::Kept(o, start);
+            return ShortRecord::Kept(o, start - 1);
         }
         return ShortRecord::Broken;
     }
@@ -95,6 +93,7 @@ fn three_bytes(trail: &[u8], end: usize) -> ShortRecord
     };
     if changed == 1 {
         let o = OldValues {
+            kind,
             marks,
             p,
             a: value,
@@ -103,10 +102,11 @@ fn three_bytes(trail: &[u8], end: usize) -> ShortRecord
             place: 0,
             value: 0,
         };
-        return ShortRecord::A(o, start);
+        return ShortRecord::A(o, start - 1);
     }
     if changed == 2 {
         let o = OldValues {
+            kind,
             marks,
             p,
             a: 0,
@@ -115,10 +115,11 @@ fn three_bytes(trail: &[u8], end: usize) -> ShortRecord
             place: 0,
             value: 0,
         };
-        return ShortRecord::X(o, start);
+        return ShortRecord::X(o, start - 1);
     }
     if changed == 4 {
         let o = OldValues {
+            kind,
             marks,
             p,
             a: 0,
@@ -127,7 +128,7 @@ fn three_bytes(trail: &[u8], end: usize) -> ShortRecord
             place: 0,
             value: 0,
         };
-        return ShortRecord::Y(o, start);
+        return ShortRecord::Y(o, start - 1);
     }
     // A word or two registers do not go into one byte.
     ShortRecord::Broken
@@ -142,11 +143,18 @@ pub fn read_short(trail: &[u8], used: usize) -> ShortRecord
     let Number::Got(n, _) = read_number(trail, end, used, SHORT) else {
         return ShortRecord::Longer;
     };
-    if n == 2 {
-        return two_bytes(trail, end);
+    let l = n as usize;
+    if l < SHORTEST {
+        return ShortRecord::Broken;
     }
-    if n == 3 {
-        return three_bytes(trail, end);
+    if end < l {
+        return ShortRecord::Broken;
     }
-    ShortRecord::Broken
+    let Number::Got(kind, _) = read_number(trail, end - l, end - l + 1, KINDS) else {
+        return ShortRecord::Broken;
+    };
+    if l == SHORTEST {
+        return two_bytes(kind, trail, end);
+    }
+    three_bytes(kind, trail, end)
 }

@@ -20,6 +20,7 @@ use Rattle.report.specs.Parts as parts
 use Rattle.machine.specs.Held.{ram, state, where-of, place-by}
 use Rattle.machine.specs.declared.Machine.{Machine}
 use Rattle.machine.specs.declared.Place.{Place}
+use Rattle.trail.specs.declared.Kind.the-variants as kind
 use Rattle.trail.specs.Records.{record-bytes, added, old-values}
 use Rattle.trail.specs.OneChange.{registers-kept, register-changed}
 use Rattle.trail.specs.declared.OldValues.{OldValues}
@@ -45,12 +46,12 @@ use Rattle.step.proofs.Stores.{finish-full, finish-done}
 
 -- ---- old values
 
-pub kept-values : (g : List ℕ) (p₀ p : ℕ) (b₀ b stop : Bool) (w : Word) → registers-kept p₀ b₀ false w ≡ old-values (held g p₀ b₀ false) (held g p b stop) w
+pub kept-values : (g : List ℕ) (p₀ p : ℕ) (b₀ b stop : Bool) (w : Word) → registers-kept p₀ b₀ false w ≡ old-values kind.Step (held g p₀ b₀ false) (held g p b stop) w
 unfolding old-values
 kept-values g p₀ p b₀ b stop w = rw (eq-eqb (getD g 0 0) (getD g 0 0) refl, eq-eqb (getD g 1 0) (getD g 1 0) refl, eq-eqb (getD g 2 0) (getD g 2 0) refl)
 
 pub register-values : (g : List ℕ) (k v p₀ p : ℕ) (b₀ b stop : Bool) → 2 < length g → k < 3 → (getD g k 0 ≡ v → ⊥)
-    → register-changed (mark-weight k) p₀ b₀ false (getD g k 0) ≡ old-values (held g p₀ b₀ false) (held (set g k v) p b stop) word.Kept
+    → register-changed (mark-weight k) p₀ b₀ false (getD g k 0) ≡ old-values kind.Step (held g p₀ b₀ false) (held (set g k v) p b stop) word.Kept
 unfolding old-values
 register-values g zero v p₀ p b₀ b stop l h q =
     rw (getD-set-same g 0 v 0 (omega arith), getD-set-other g 0 1 v 0 (λ e. omega arith), getD-set-other g 0 2 v 0 (λ e. omega arith), ne-eqb (getD g 0 0) v q, eq-eqb (getD g 1 0) (getD g 1 0) refl, eq-eqb (getD g 2 0) (getD g 2 0) refl)
@@ -78,12 +79,12 @@ kept-before stepped.Full g g′ n h = sym (fourth g n 0 false false) ∙ h
 -- ---- the change finished, by the record that was added
 
 module _ (m : Machine) (c : Change) (r : Mem) (t : List ℕ) (used : ℕ) (w : Word) (o : OldValues) (a : Added) (t′ : List ℕ)
-    (hw : w ≡ changing r (c .written)) (ho : o ≡ old-values m (c .machine) w) (ha : (a, t′) ≡ added t used (record-bytes o)) where
+    (hw : w ≡ changing r (c .written)) (ho : o ≡ old-values kind.Step m (c .machine) w) (ha : (a, t′) ≡ added t used (record-bytes o)) where
   pub completes-full : a ≡ Full → ended came·is.NoRoom r t′ ≡ completed m c r t used
-  completes-full e = ap (ended-by (c .machine)) (finish-full m c r t used w o a t′ hw ho ha e)
+  completes-full e = ap (ended-by (c .machine)) (finish-full kind.Step m c r t used w o a t′ hw ho ha e)
 
   pub completes : (n : ℕ) (r′ : Mem) → a ≡ Used n → r′ ≡ rewritten r (c .written) → ended (came·is.Done (c .machine) n) r′ t′ ≡ completed m c r t used
-  completes n r′ e h = ap (ended-by (c .machine)) (finish-done m c r t used w o a t′ hw ho ha n r′ e h)
+  completes n r′ e h = ap (ended-by (c .machine)) (finish-done kind.Step m c r t used w o a t′ hw ho ha n r′ e h)
 
 -- A word that was read before it is written over.
 pub written-over : (r : Mem) (q : Place) (old v : ℕ) → old ≡ word-at r (where-of q) → changed-to q old v ≡ changing r (phases.Word q v)

@@ -16,6 +16,7 @@ use Rattle.machine.specs.declared.Place.the-variants.{Main, Port}
 use Rattle.machine.specs.declared.MainAddress.{MainAddress}
 use Rattle.machine.specs.declared.PortNumber.{PortNumber}
 use Rattle.machine.specs.declared.Machine.{Machine}
+use Rattle.trail.specs.declared.Kind.{Kind}
 use Rattle.trail.specs.Records as records
 use Rattle.trail.specs.declared.OldValues.{OldValues}
 use Rattle.trail.specs.declared.Added.{Added}
@@ -78,12 +79,12 @@ changing-value main ports (written.Word q v) hm hp = go (eqb (word-at (ram main 
 
 -- ---- the last phase
 
-module _ (m : Machine) (c : Change) (r : Mem) (t : List ℕ) (used : ℕ) (w : Word) (o : OldValues) (a : Added) (t′ : List ℕ)
-    (hw : w ≡ changing r (c .written)) (ho : o ≡ records.old-values m (c .machine) w) (ha : (a, t′) ≡ records.added t used (records.record-bytes o)) where
-  pub finish-full : a ≡ added.Full → left added.Full r t′ ≡ finished m c r t used
+module _ (k : Kind) (m : Machine) (c : Change) (r : Mem) (t : List ℕ) (used : ℕ) (w : Word) (o : OldValues) (a : Added) (t′ : List ℕ)
+    (hw : w ≡ changing r (c .written)) (ho : o ≡ records.old-values k m (c .machine) w) (ha : (a, t′) ≡ records.added t used (records.record-bytes o)) where
+  pub finish-full : a ≡ added.Full → left added.Full r t′ ≡ finished k m c r t used
   unfolding finished
   finish-full e = rw (← hw, ← ho, ← ha, e)
 
-  pub finish-done : (n : ℕ) (r′ : Mem) → a ≡ added.Used n → r′ ≡ rewritten r (c .written) → left (added.Used n) r′ t′ ≡ finished m c r t used
+  pub finish-done : (n : ℕ) (r′ : Mem) → a ≡ added.Used n → r′ ≡ rewritten r (c .written) → left (added.Used n) r′ t′ ≡ finished k m c r t used
   unfolding finished
   finish-done n r′ e h = rw (← hw, ← ho, ← ha, e, h)

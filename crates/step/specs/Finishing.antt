@@ -10,6 +10,8 @@ use Rattle.report.specs.AnnexA.{Mem}
 use Rattle.report.specs.Parts.{Where, fitted, word-at, with-word}
 use Rattle.machine.specs.Held.{where-of}
 use Rattle.machine.specs.declared.Machine.{Machine}
+use Rattle.trail.specs.declared.Kind.{Kind}
+use Rattle.trail.specs.declared.Kind.the-variants as kind
 use Rattle.trail.specs.Records.{old-values, record-bytes, added}
 use Rattle.trail.specs.declared.Word.{Word}
 use Rattle.trail.specs.declared.Word.the-variants as word
@@ -59,9 +61,9 @@ abbrev pub finishing : Added × List ℕ → Mem → Written → Finish
 finishing (Full, t) ram w = record { answered = Full; stores = ram; trail = t }
 finishing (Used n, t) ram w = record { answered = Used n; stores = rewritten ram w; trail = t }
 
-unfoldable pub finished : Machine → Change → Mem → List ℕ → ℕ → Finish
-finished m c ram trail used =
-    finishing (added trail used (record-bytes (old-values m (c .machine) (changing ram (c .written))))) ram (c .written)
+unfoldable pub finished : Kind → Machine → Change → Mem → List ℕ → ℕ → Finish
+finished k m c ram trail used =
+    finishing (added trail used (record-bytes (old-values k m (c .machine) (changing ram (c .written))))) ram (c .written)
 
 -- What `finish` answered and left.
 abbrev pub left : Added → Mem → List ℕ → Finish
@@ -105,7 +107,7 @@ ended-by m f = ended (answered-by m (f .answered)) (f .stores) (f .trail)
 
 -- The change finished.
 abbrev pub completed : Machine → Change → Mem → List ℕ → ℕ → End
-completed m c ram t used = ended-by (c .machine) (finished m c ram t used)
+completed m c ram t used = ended-by (c .machine) (finished kind.Step m c ram t used)
 
 abbrev pub by-plan : Machine → Mem → List ℕ → ℕ → Plan → End
 by-plan m ram t used Lacking = ended Unfitted ram t

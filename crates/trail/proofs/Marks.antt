@@ -9,10 +9,12 @@ use borrow.Author.Tests.{eq-eqb, ne-eqb}
 use Rattle.report.specs.AnnexA.{BV}
 use Rattle.machine.specs.declared.Machine.{Machine}
 use Rattle.machine.specs.declared.Place.the-variants.{Main, Port}
+use Rattle.trail.specs.declared.Kind.{Kind}
+use Rattle.trail.specs.declared.Kind.the-variants.{FromOld, Step, Reset, Force, Set}
 use Rattle.trail.specs.declared.Word.{Word}
 use Rattle.trail.specs.declared.Word.the-variants.{Kept, Changed}
 use Rattle.trail.specs.Numbers.{GoodIf}
-use Rattle.trail.specs.Records.{marked, differs, word-changed, word-place, word-value, marks-by, Addressed, Good, old-values}
+use Rattle.trail.specs.Records.{marked, differs, word-changed, word-place, word-value, marks-by, Addressed, Good, kind-number, old-values}
 
 pub bit : (t : Bool) → BV t ≤ 1
 bit true = omega arith
@@ -82,11 +84,19 @@ pub record Sound (old : Machine) (w : Word) : Type 0 where
   pub address : Addressed w
   pub value : word-value w < 2 ^ 32
 
-pub old-values-good : {old : Machine} (new : Machine) {w : Word} → Sound old w → Good (2 ^ 21) (old-values old new w)
+kind-few : (k : Kind) → kind-number k < 5
+kind-few FromOld = omega arith
+kind-few Step = omega arith
+kind-few Reset = omega arith
+kind-few Force = omega arith
+kind-few Set = omega arith
+
+pub old-values-good : (k : Kind) {old : Machine} (new : Machine) {w : Word} → Sound old w → Good (2 ^ 21) (old-values k old new w)
 unfolding old-values
-old-values-good {old} new {w} s =
+old-values-good k {old} new {w} s =
     let m = marks old new w in
     record {
+      kind = kind-few k;
       marks = m .few;
       p = s .p;
       a = rw (m .a) (good-if (differs (old .a) (new .a)) (2 ^ 32) (old .a) (s .a));

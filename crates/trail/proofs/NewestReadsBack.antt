@@ -11,36 +11,36 @@ use lib.Dec.{ltb}
 use lib.ListN.{length, getD, take, drop, length-append, take-append-drop}
 use lib.Seq.{slice, take-at, drop-at, getD-at, take-suc, take-take, length-slice, length-take-le}
 use borrow.Author.Tests.{ltb-true, ltb-false, lt-ltb, le-ltb}
-use Rattle.report.specs.AnnexA.{Mem}
+use Rattle.report.specs.AnnexA.{Mem, BV}
 use Rattle.report.specs.Parts.{Where, fitted}
 use Rattle.trail.specs.declared.OldValues.{OldValues}
 use Rattle.trail.specs.declared.Newest.{Newest}
 use Rattle.trail.specs.declared.Newest.the-variants.{Record, Broken}
-use Rattle.trail.specs.Records.{marked, where-of-number, body, record-bytes, Good}
-use Rattle.trail.specs.Newest.{read-record, leaving, before-L, newest, fits, only-fitted, newest-fitted}
-use Rattle.trail.proofs.Lengths.{body-length}
-use Rattle.trail.proofs.RecordsReadBack.{read-body, read-record-only}
+use Rattle.trail.specs.Records.{marked, where-of-number, body-in, record-in, record-bytes, Good, GoodIn}
+use Rattle.trail.specs.Newest.{read-in-form, leaving, before-L-in, newest-in, newest, fits, only-fitted, newest-fitted}
+use Rattle.trail.proofs.Lengths.{body-length-in}
+use Rattle.trail.proofs.RecordsReadBack.{read-body-in, read-only-in}
 
 -- ---- L leads to the bytes before it
 
--- A record is broken if L is below 2 or above 27, or if fewer than L + 1 bytes are in use; else it is that of the L bytes before L.
-module _ (places : ℕ) (trail : List ℕ) (used : ℕ) where
-  pub too-short : getD trail (used - 1) 0 < 2 → newest places trail used ≡ Broken
-  unfolding newest
-  too-short h = rw (lt-ltb (getD trail (used - 1) 0) 2 h)
+-- A record is broken if L is below 3 or above 28 (in the old form 2 and 27), or if fewer than L + 1 bytes are in use; else it is that of the L bytes before L.
+module _ (kinds : Bool) (places : ℕ) (trail : List ℕ) (used : ℕ) where
+  pub too-short : getD trail (used - 1) 0 < 2 + BV kinds → newest-in kinds places trail used ≡ Broken
+  unfolding newest-in
+  too-short h = rw (lt-ltb (getD trail (used - 1) 0) (2 + BV kinds) h)
 
-  pub too-long : 27 < getD trail (used - 1) 0 → newest places trail used ≡ Broken
-  unfolding newest
-  too-long h = rw (le-ltb (getD trail (used - 1) 0) 2 (omega arith), lt-ltb 27 (getD trail (used - 1) 0) h)
+  pub too-long : 27 + BV kinds < getD trail (used - 1) 0 → newest-in kinds places trail used ≡ Broken
+  unfolding newest-in
+  too-long h = rw (le-ltb (getD trail (used - 1) 0) (2 + BV kinds) (omega arith), lt-ltb (27 + BV kinds) (getD trail (used - 1) 0) h)
 
-  pub past-the-first : 2 ≤ getD trail (used - 1) 0 → getD trail (used - 1) 0 ≤ 27 → used - 1 < getD trail (used - 1) 0 → newest places trail used ≡ Broken
-  unfolding newest
-  past-the-first h g l = rw (le-ltb (getD trail (used - 1) 0) 2 h, le-ltb 27 (getD trail (used - 1) 0) g, lt-ltb (used - 1) (getD trail (used - 1) 0) l)
+  pub past-the-first : 2 + BV kinds ≤ getD trail (used - 1) 0 → getD trail (used - 1) 0 ≤ 27 + BV kinds → used - 1 < getD trail (used - 1) 0 → newest-in kinds places trail used ≡ Broken
+  unfolding newest-in
+  past-the-first h g l = rw (le-ltb (getD trail (used - 1) 0) (2 + BV kinds) h, le-ltb (27 + BV kinds) (getD trail (used - 1) 0) g, lt-ltb (used - 1) (getD trail (used - 1) 0) l)
 
-  pub by-L : 2 ≤ getD trail (used - 1) 0 → getD trail (used - 1) 0 ≤ 27 → getD trail (used - 1) 0 ≤ used - 1
-      → newest places trail used ≡ leaving (used - 1 - getD trail (used - 1) 0) (read-record places (slice (used - 1 - getD trail (used - 1) 0) (used - 1) trail))
-  unfolding newest
-  by-L h g l = rw (le-ltb (getD trail (used - 1) 0) 2 h, le-ltb 27 (getD trail (used - 1) 0) g, le-ltb (used - 1) (getD trail (used - 1) 0) l)
+  pub by-L : 2 + BV kinds ≤ getD trail (used - 1) 0 → getD trail (used - 1) 0 ≤ 27 + BV kinds → getD trail (used - 1) 0 ≤ used - 1
+      → newest-in kinds places trail used ≡ leaving (used - 1 - getD trail (used - 1) 0) (read-in-form kinds places (slice (used - 1 - getD trail (used - 1) 0) (used - 1) trail))
+  unfolding newest-in
+  by-L h g l = rw (le-ltb (getD trail (used - 1) 0) (2 + BV kinds) h, le-ltb (27 + BV kinds) (getD trail (used - 1) 0) g, le-ltb (used - 1) (getD trail (used - 1) 0) l)
 
 -- The middle of three lists.
 middle : (a b c : List ℕ) (m n : ℕ) → length a ≡ m → m + length b ≡ n → slice m n (a ++ (b ++ c)) ≡ b
@@ -48,9 +48,9 @@ middle a b c m n h g =
     rw (← append-assoc a b c, take-at (a ++ b) c n (length-append a b ∙ omega arith)) (drop-at a b m h)
 
 -- Bytes and their count, after any bytes and before any.
-newest-counted : (places : ℕ) (front b rest : List ℕ) → 2 ≤ length b → length b ≤ 27
-    → newest places (front ++ ((b ++ (length b ∷ [])) ++ rest)) (length front + length (b ++ (length b ∷ []))) ≡ leaving (length front) (read-record places b)
-newest-counted places front b rest h g =
+newest-counted : (kinds : Bool) (places : ℕ) (front b rest : List ℕ) → 2 + BV kinds ≤ length b → length b ≤ 27 + BV kinds
+    → newest-in kinds places (front ++ ((b ++ (length b ∷ [])) ++ rest)) (length front + length (b ++ (length b ∷ []))) ≡ leaving (length front) (read-in-form kinds places b)
+newest-counted kinds places front b rest h g =
     let trail = front ++ (b ++ (length b ∷ rest)) in
     let end = length front + length b in
     let used = length front + length (b ++ (length b ∷ [])) in
@@ -60,18 +60,22 @@ newest-counted places front b rest h g =
     rw (u, ← append-assoc front b (length b ∷ rest)) (getD-at (front ++ b) (length b) rest 0 end (length-append front b))
     in
     let f : end - length b ≡ length front = omega arith in
-    rw (r, by-L places trail used (omega arith) (omega arith) (omega arith), n, u, f)
-    (ap (λ (s : List ℕ). leaving (length front) (read-record places s)) (middle front b (length b ∷ rest) (length front) end refl refl))
+    rw (r, by-L kinds places trail used (omega arith) (omega arith) (omega arith), n, u, f)
+    (ap (λ (s : List ℕ). leaving (length front) (read-in-form kinds places s)) (middle front b (length b ∷ rest) (length front) end refl refl))
 
 -- ---- what was added last is the newest
 
+pub newest-added-in : (kinds : Bool) {places : ℕ} {o : OldValues} (front rest : List ℕ) → places ≤ 2 ^ 21 → GoodIn kinds places o
+    → newest-in kinds places (front ++ (record-in kinds o ++ rest)) (length front + length (record-in kinds o)) ≡ Record o (length front)
+unfolding record-in
+newest-added-in kinds {places} {o} front rest h g =
+    let z = body-length-in kinds h g in
+    newest-counted kinds places front (body-in kinds o) rest (z .0) (z .1)
+    ∙ ap (leaving (length front)) (read-body-in kinds (omega arith) g)
+
 pub newest-added : {places : ℕ} {o : OldValues} (front rest : List ℕ) → places ≤ 2 ^ 21 → Good places o
     → newest places (front ++ (record-bytes o ++ rest)) (length front + length (record-bytes o)) ≡ Record o (length front)
-unfolding record-bytes
-newest-added {places} {o} front rest h g =
-    let z = body-length h g in
-    newest-counted places front (body o) rest (z .0) (z .1)
-    ∙ ap (leaving (length front)) (read-body (omega arith) g)
+newest-added front rest h g = newest-added-in true front rest h g
 
 -- Fitted in stores of these lengths is fitted in those stores.
 pub fits-fitted : (ram : Mem) (q : Where) → fits (length (ram .main)) (length (ram .ports)) q ≡ fitted ram q
@@ -96,7 +100,18 @@ unfolding newest-fitted
 newest-fitted-added {o} main ports front rest g f =
     ap (only-fitted main ports) (newest-added front rest (omega arith) g) ∙ fitted-kept main ports o (length front) f
 
--- The same of a trail whose bytes in use are known.
+-- The same of a trail whose bytes in use are known, in either form; and in the new one, with the word's place fitted.
+pub newest-in-use-in : (kinds : Bool) {places : ℕ} {o : OldValues} (trail : List ℕ) (used : ℕ) (front : List ℕ) → places ≤ 2 ^ 21 → used ≤ length trail → take used trail ≡ front ++ record-in kinds o → GoodIn kinds places o
+    → newest-in kinds places trail used ≡ Record o (length front)
+newest-in-use-in kinds {places} {o} trail used front b h e g =
+    let t : front ++ (record-in kinds o ++ drop used trail) ≡ trail =
+    sym (append-assoc front (record-in kinds o) (drop used trail)) ∙ rw (← e) (take-append-drop used trail)
+    in
+    let n : length front + length (record-in kinds o) ≡ used =
+    sym (length-append front (record-in kinds o)) ∙ rw (← e) (length-take-le used trail h)
+    in
+    rw (t, n) at (newest-added-in kinds front (drop used trail) b g)
+
 pub newest-in-use : {o : OldValues} (main ports : ℕ) (trail : List ℕ) (used : ℕ) (front : List ℕ) → used ≤ length trail → take used trail ≡ front ++ record-bytes o → Good (2 ^ 21) o → Fits main ports o
     → newest-fitted main ports trail used ≡ Record o (length front)
 newest-in-use {o} main ports trail used front h e g f =
@@ -118,57 +133,69 @@ record-injective {places} {o} {q} h g k e =
 
 -- ---- a record that is read stands there
 
-record Found (places : ℕ) (trail : List ℕ) (end L : ℕ) (o : OldValues) (n : ℕ) : Type 0 where
-  low : 2 ≤ L
-  high : L ≤ 27
-  room : L ≤ end
-  left : n ≡ end - L
-  read : read-record places (slice (end - L) end trail) ≡ some o
+-- What L and the bytes before it are.
+pub record Found (kinds : Bool) (places : ℕ) (trail : List ℕ) (end L : ℕ) (o : OldValues) (n : ℕ) : Type 0 where
+  pub low : 2 + BV kinds ≤ L
+  pub high : L ≤ 27 + BV kinds
+  pub room : L ≤ end
+  pub left : n ≡ end - L
+  pub read : read-in-form kinds places (slice (end - L) end trail) ≡ some o
 
 left-some : (m : ℕ) (r : Option OldValues) (o : OldValues) (n : ℕ) → leaving m r ≡ Record o n → (n ≡ m) × (r ≡ some o)
 left-some m none o n p = let z : _≡_ {A = ℕ} 0 1 = cc in absurd (omega arith)
 left-some m (some q) o n p = (cc, cc)
 
-found : (places : ℕ) (trail : List ℕ) (end L : ℕ) (o : OldValues) (n : ℕ) → before-L places trail end L ≡ Record o n → Found places trail end L o n
-found places trail end L o n p = go (ltb L 2) (ltb 27 L) (ltb end L) refl refl refl p
+found : (kinds : Bool) (places : ℕ) (trail : List ℕ) (end L : ℕ) (o : OldValues) (n : ℕ) → before-L-in kinds places trail end L ≡ Record o n → Found kinds places trail end L o n
+found kinds places trail end L o n p = go (ltb L (2 + BV kinds)) (ltb (27 + BV kinds) L) (ltb end L) refl refl refl p
   where
     go : (a b c : Bool)
-        → ltb L 2 ≡ a
-        → ltb 27 L ≡ b
+        → ltb L (2 + BV kinds) ≡ a
+        → ltb (27 + BV kinds) L ≡ b
         → ltb end L ≡ c
-        → cond a Broken (cond b Broken (cond c Broken (leaving (end - L) (read-record places (slice (end - L) end trail))))) ≡ Record o n
-        → Found places trail end L o n
+        → cond a Broken (cond b Broken (cond c Broken (leaving (end - L) (read-in-form kinds places (slice (end - L) end trail))))) ≡ Record o n
+        → Found kinds places trail end L o n
     go true b c e f g q = let z : _≡_ {A = ℕ} 0 1 = cc in absurd (omega arith)
     go false true c e f g q = let z : _≡_ {A = ℕ} 0 1 = cc in absurd (omega arith)
     go false false true e f g q = let z : _≡_ {A = ℕ} 0 1 = cc in absurd (omega arith)
     go false false false e f g q =
-        let s = left-some (end - L) (read-record places (slice (end - L) end trail)) o n q in
-        record { low = ltb-false L 2 e; high = ltb-false 27 L f; room = ltb-false end L g; left = s .0; read = s .1 }
+        let s = left-some (end - L) (read-in-form kinds places (slice (end - L) end trail)) o n q in
+        record { low = ltb-false L (2 + BV kinds) e; high = ltb-false (27 + BV kinds) L f; room = ltb-false end L g; left = s .0; read = s .1 }
+
+pub newest-found : (kinds : Bool) (places : ℕ) (trail : List ℕ) (used : ℕ) (o : OldValues) (n : ℕ) → newest-in kinds places trail used ≡ Record o n
+    → Found kinds places trail (used - 1) (getD trail (used - 1) 0) o n
+unfolding newest-in
+newest-found kinds places trail used o n p = found kinds places trail (used - 1) (getD trail (used - 1) 0) o n p
 
 -- The bytes in use end in the record of o, after n bytes.
-pub record Stands (places : ℕ) (trail : List ℕ) (used : ℕ) (o : OldValues) (n : ℕ) : Type 0 where
-  pub bytes : take used trail ≡ take n trail ++ record-bytes o
-  pub count : used ≡ n + length (record-bytes o)
-  pub good : Good places o
+pub record StandsIn (kinds : Bool) (places : ℕ) (trail : List ℕ) (used : ℕ) (o : OldValues) (n : ℕ) : Type 0 where
+  pub bytes : take used trail ≡ take n trail ++ record-in kinds o
+  pub count : used ≡ n + length (record-in kinds o)
+  pub good : GoodIn kinds places o
 
-pub newest-stands : {places : ℕ} {trail : List ℕ} {used : ℕ} {o : OldValues} {n : ℕ} → 0 < used → used ≤ length trail → newest places trail used ≡ Record o n → Stands places trail used o n
-unfolding newest record-bytes
-newest-stands {places} {trail} {used} {o} {n} h l p =
+abbrev pub Stands : ℕ → List ℕ → ℕ → OldValues → ℕ → Type 0
+Stands places trail used o n = StandsIn true places trail used o n
+
+pub newest-stands-in : (kinds : Bool) {places : ℕ} {trail : List ℕ} {used : ℕ} {o : OldValues} {n : ℕ} → 0 < used → used ≤ length trail → newest-in kinds places trail used ≡ Record o n → StandsIn kinds places trail used o n
+unfolding newest-in record-in
+newest-stands-in kinds {places} {trail} {used} {o} {n} h l p =
     let end = used - 1 in
     let L = getD trail end 0 in
-    let w = found places trail end L o n p in
-    let b = read-record-only places (slice (end - L) end trail) o (w .read) in
-    let c : length (body o) ≡ L = ap length (sym (b .0)) ∙ length-slice (end - L) end trail (omega arith) ∙ omega (arith, w .room) in
+    let w = found kinds places trail end L o n p in
+    let b = read-only-in kinds places (slice (end - L) end trail) o (w .read) in
+    let c : length (body-in kinds o) ≡ L = ap length (sym (b .0)) ∙ length-slice (end - L) end trail (omega arith) ∙ omega (arith, w .room) in
     let u : used ≡ suc end = omega arith in
     let t : take used trail ≡ take end trail ++ (L ∷ []) = ap (λ (j : ℕ). take j trail) u ∙ take-suc trail end 0 (omega arith) in
-    let m : take end trail ≡ take (end - L) trail ++ body o =
+    let m : take end trail ≡ take (end - L) trail ++ body-in kinds o =
     sym (take-append-drop (end - L) (take end trail)) ∙ rw (take-take (end - L) end trail (omega arith), b .0)
     in
     record {
-      bytes = rw (t, m, w .left, c) (append-assoc (take (end - L) trail) (body o) (L ∷ []));
-      count = omega (arith, length-append (body o) (length (body o) ∷ []), w .left, w .room);
+      bytes = rw (t, m, w .left, c) (append-assoc (take (end - L) trail) (body-in kinds o) (L ∷ []));
+      count = omega (arith, length-append (body-in kinds o) (length (body-in kinds o) ∷ []), w .left, w .room);
       good = b .1;
     }
+
+pub newest-stands : {places : ℕ} {trail : List ℕ} {used : ℕ} {o : OldValues} {n : ℕ} → 0 < used → used ≤ length trail → newest places trail used ≡ Record o n → Stands places trail used o n
+newest-stands h l p = newest-stands-in true h l p
 
 fitted-only : (main ports : ℕ) (r : Newest) (o : OldValues) (n : ℕ) → only-fitted main ports r ≡ Record o n → (r ≡ Record o n) × Fits main ports o
 fitted-only main ports Broken o n p = let z : _≡_ {A = ℕ} 0 1 = cc in absurd (omega arith)

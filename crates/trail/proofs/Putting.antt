@@ -52,6 +52,9 @@ put-none at b = record { place = omega arith; bytes = sym (append-nil (take at b
 pub put-first : (b : List ℕ) (m : ℕ) → 0 < length b → Put 0 (m ∷ []) b (set b 0 m) 1
 put-first b m h = record { place = refl; bytes = take-suc-set b 0 m h; size = length-set b 0 m }
 
+pub put-one : (b : List ℕ) (at m : ℕ) → at < length b → Put at (m ∷ []) b (set b at m) (at + 1)
+put-one b at m h = record { place = refl; bytes = rw add-one (take-suc-set b at m h); size = length-set b at m }
+
 pub put-then : {at m n : ℕ} {s t b₀ b₁ b₂ : List ℕ} → Put at s b₀ b₁ m → Put m t b₁ b₂ n → Put at (s ++ t) b₀ b₂ n
 put-then {at} {m} {n} {s} {t} {b₀} {b₁} {b₂} e f =
     record {

@@ -14,6 +14,7 @@ use Rattle.report.specs.AnnexA.{Mem, BV}
 use Rattle.report.specs.Section3.{State}
 use Rattle.report.specs.Parts.{Where, word-at, with-word, fitted, InRange}
 use Rattle.machine.specs.Held.{machine-of, place-of}
+use Rattle.trail.specs.declared.Kind.{Kind}
 use Rattle.trail.specs.declared.Word.{Word}
 use Rattle.trail.specs.declared.Word.the-variants.{Kept, Changed}
 use Rattle.trail.specs.Records.{differs, place-number, where-of-number, word-changed, word-place, word-value, Addressed, changed-word, old-if-changed, old-values, old-values-of, record-of, restored, Good}
@@ -115,11 +116,11 @@ unfolding word-at
 in-range h (true, a) = h .ports-lt a
 in-range h (false, a) = h .main-lt a
 
-pub record Restores (old new : State) (q : Option Where) : Type 0 where
-  pub good : Good (2 ^ 21) (old-values-of old new q)
-  pub fitting : Fits (length (new .0 .main)) (length (new .0 .ports)) (old-values-of old new q)
-  pub back : restored (old-values-of old new q) new ≡ old
-  pub short : length (record-of old new q) ≤ 5 + 5 * registers-changed (machine-of old) (machine-of new) + 8 * BV (word-changed (changed-word (old .0) (new .0) q))
+pub record Restores (k : Kind) (old new : State) (q : Option Where) : Type 0 where
+  pub good : Good (2 ^ 21) (old-values-of k old new q)
+  pub fitting : Fits (length (new .0 .main)) (length (new .0 .ports)) (old-values-of k old new q)
+  pub back : restored (old-values-of k old new q) new ≡ old
+  pub short : length (record-of k old new q) ≤ 6 + 5 * registers-changed (machine-of old) (machine-of new) + 8 * BV (word-changed (changed-word (old .0) (new .0) q))
 
 sound : (old new : State) {q : Option Where} → InRange old → Touched (old .0) (new .0) q → Sound (machine-of old) (changed-word (old .0) (new .0) q)
 sound old new {q} r t =
@@ -132,15 +133,15 @@ sound old new {q} r t =
       value = told t .value (2 ^ 32) (in-range r) (omega arith);
     }
 
-pub record-restores : (old new : State) (q : Option Where) → InRange old → Touched (old .0) (new .0) q → Restores old new q
+pub record-restores : (k : Kind) (old new : State) (q : Option Where) → InRange old → Touched (old .0) (new .0) q → Restores k old new q
 unfolding old-values restored
-record-restores old new q r t =
+record-restores k old new q r t =
     let m = marks (machine-of old) (machine-of new) (changed-word (old .0) (new .0) q) in
     let d = told t in
     record {
-      good = old-values-good (machine-of new) (sound old new r t);
+      good = old-values-good k (machine-of new) (sound old new r t);
       fitting = λ h. d .fitting (sym (m .word) ∙ h);
       back =
           rw (m .word, m .a, m .x, m .y, m .b, m .stop, d .back, register-back (old .2) (new .2), register-back (old .3) (new .3), register-back (old .4) (new .4));
-      short = old-values-length (machine-of new) (sound old new r t);
+      short = old-values-length k (machine-of new) (sound old new r t);
     }

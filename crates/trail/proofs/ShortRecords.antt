@@ -11,7 +11,7 @@ use Rattle.machine.specs.declared.Place.{Place}
 use Rattle.trail.specs.declared.Added.{Added}
 use Rattle.trail.specs.declared.Word.the-variants.{Kept, Changed}
 use Rattle.trail.specs.Numbers.{groups}
-use Rattle.trail.specs.Records.{added, record-bytes, marks-by, place-number}
+use Rattle.trail.specs.Records.{added, record-bytes, marks-by, place-number, record-in}
 use Rattle.trail.specs.OneChange.{closed, one-value, registers-kept, register-changed, Register, is-a, is-x, is-y}
 use Rattle.trail.proofs.NumbersReadBack.{groups-one, groups-more}
 use Rattle.trail.proofs.Marks.{bits}
@@ -43,21 +43,21 @@ groups-five h l e₀ e₁ e₂ e₃ = groups-then (omega arith) e₀ (groups-fou
 
 -- What was added, by the groups of P and of the value.
 pub adds-groups : (trail : List ℕ) (used m p v : ℕ) {q s : List ℕ} {r : Added × List ℕ} → groups p ≡ q → groups v ≡ s
-    → r ≡ added trail used (closed (m ∷ (q ++ s)))
-    → r ≡ added trail used (closed (m ∷ (groups p ++ groups v)))
+    → r ≡ added trail used (closed (1 ∷ (m ∷ (q ++ s))))
+    → r ≡ added trail used (closed (1 ∷ (m ∷ (groups p ++ groups v))))
 adds-groups trail used m p v e f h = rw (e, f) h
 
 -- ---- no register and no word
 
-kept-bytes : (p : ℕ) (b s : Bool) → record-bytes (registers-kept p b s Kept) ≡ closed (marks-by false false false false b s ∷ groups p)
-unfolding record-bytes
+kept-bytes : (p : ℕ) (b s : Bool) → record-bytes (registers-kept p b s Kept) ≡ closed (1 ∷ (marks-by false false false false b s ∷ groups p))
+unfolding record-in
 kept-bytes p b s =
     let m = bits false false false false b s in
-    rw (m .a, m .x, m .y, m .word, groups-one (marks-by false false false false b s) (omega (arith, m .few)), append-nil (groups p))
+    rw (m .a, m .x, m .y, m .word, groups-one 1 (omega arith), groups-one (marks-by false false false false b s) (omega (arith, m .few)), append-nil (groups p))
 
 -- What was added, by the groups of P.
 pub adds-kept : (trail : List ℕ) (used : ℕ) {k : ℕ} (p : ℕ) (b s : Bool) {q : List ℕ} {r : Added × List ℕ} → k ≡ marks-by false false false false b s → groups p ≡ q
-    → r ≡ added trail used (closed (k ∷ q))
+    → r ≡ added trail used (closed (1 ∷ (k ∷ q)))
     → r ≡ added trail used (record-bytes (registers-kept p b s Kept))
 adds-kept trail used p b s m e h = rw (kept-bytes p b s, ← m, e) h
 
@@ -74,21 +74,21 @@ register-few is-a = omega arith
 register-few is-x = omega arith
 register-few is-y = omega arith
 
-changed-bytes : {w : ℕ} → Register w → (p : ℕ) (b s : Bool) (old : ℕ) → record-bytes (register-changed w p b s old) ≡ closed (marks-by (eqb w 1) (eqb w 2) (eqb w 4) false b s ∷ (groups p ++ groups old))
-unfolding record-bytes
+changed-bytes : {w : ℕ} → Register w → (p : ℕ) (b s : Bool) (old : ℕ) → record-bytes (register-changed w p b s old) ≡ closed (1 ∷ (marks-by (eqb w 1) (eqb w 2) (eqb w 4) false b s ∷ (groups p ++ groups old)))
+unfolding record-in
 changed-bytes is-a p b s old =
     let m = bits true false false false b s in
-    rw (m .a, m .x, m .y, m .word, groups-one (marks-by true false false false b s) (omega (arith, m .few)), append-nil (groups old))
+    rw (m .a, m .x, m .y, m .word, groups-one 1 (omega arith), groups-one (marks-by true false false false b s) (omega (arith, m .few)), append-nil (groups old))
 changed-bytes is-x p b s old =
     let m = bits false true false false b s in
-    rw (m .a, m .x, m .y, m .word, groups-one (marks-by false true false false b s) (omega (arith, m .few)), append-nil (groups old))
+    rw (m .a, m .x, m .y, m .word, groups-one 1 (omega arith), groups-one (marks-by false true false false b s) (omega (arith, m .few)), append-nil (groups old))
 changed-bytes is-y p b s old =
     let m = bits false false true false b s in
-    rw (m .a, m .x, m .y, m .word, groups-one (marks-by false false true false b s) (omega (arith, m .few)), append-nil (groups old))
+    rw (m .a, m .x, m .y, m .word, groups-one 1 (omega arith), groups-one (marks-by false false true false b s) (omega (arith, m .few)), append-nil (groups old))
 
 -- The record of one register by the groups of P and of its old value; and as a record with one value.
 pub register-closed : {w k l : ℕ} → Register w → (p : ℕ) (b s : Bool) (old : ℕ) → k ≡ 16 * BV b → l ≡ 32 * BV s
-    → closed ((w + (k + l)) ∷ (groups p ++ groups old)) ≡ record-bytes (register-changed w p b s old)
+    → closed (1 ∷ ((w + (k + l)) ∷ (groups p ++ groups old))) ≡ record-bytes (register-changed w p b s old)
 register-closed r p b s old e f = rw (register-marks r b s e f, changed-bytes r p b s old)
 
 pub as-register : {w k l : ℕ} → Register w → (p : ℕ) (b s : Bool) (old : ℕ) → k ≡ 16 * BV b → l ≡ 32 * BV s
@@ -101,8 +101,8 @@ as-register {w} r p b s old e f =
 
 pub as-word : {k l q : ℕ} (p : ℕ) (b s : Bool) (place : Place) (old : ℕ) → k ≡ 16 * BV b → l ≡ 32 * BV s → q ≡ place-number place
     → one-value (8 + (k + l)) p q old ≡ record-bytes (registers-kept p b s (Changed place old))
-unfolding one-value record-bytes
+unfolding one-value record-in
 as-word {k} {l} p b s place old e f g =
     let m = bits false false false true b s in
     let n : 8 + (k + l) ≡ marks-by false false false true b s = omega arith in
-    rw (n, g, m .a, m .x, m .y, m .word, groups-one (marks-by false false false true b s) (omega (arith, m .few)))
+    rw (n, g, m .a, m .x, m .y, m .word, groups-one 1 (omega arith), groups-one (marks-by false false false true b s) (omega (arith, m .few)))

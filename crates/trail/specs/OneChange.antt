@@ -1,4 +1,4 @@
--- The old values of an operation that changes at most one register or one word, as every step does.
+-- The old values of a step, which changes at most one register or one word. Its kind is 1.
 -- That they are its `old-values` is in the crate step, proofs/Completing.antt.
 -- Assumes nothing.
 use Prim.Native.Nat.{ℕ}
@@ -16,6 +16,7 @@ use Rattle.trail.specs.Records.{marked, marks-by, word-changed, word-pla
 abbrev pub one-change : Bool → Bool → Bool → ℕ → ℕ → Bool → Bool → Word → OldValues
 one-change a x y old p b stop w =
     record {
+      kind = 1;
       marks = marks-by a x y (word-changed w) b stop;
       p = p;
       a = cond a old 0;
@@ -43,10 +44,10 @@ register-changed w p b stop old = one-change (eqb w 1) (eqb w 2) (eqb w 4) old p
 abbrev pub closed : List ℕ → List ℕ
 closed s = s ++ (length s ∷ [])
 
--- The record of one register or one word: the marks, which are one byte; P; the word's place, if one is marked; the value.
+-- The record of one register or one word: the kind 1; the marks, which are one byte; P; the word's place, if one is marked; the value.
 unfoldable pub one-value : ℕ → ℕ → ℕ → ℕ → List ℕ
-one-value marks p place v = closed (marks ∷ (groups p ++ (bytes-if (marked 8 marks) place ++ groups v)))
+one-value marks p place v = closed (1 ∷ (marks ∷ (groups p ++ (bytes-if (marked 8 marks) place ++ groups v))))
 
--- Nine bytes at the head of a record's array.
+-- The kind 1 and nine bytes at the head of a record's array.
 abbrev pub nine : ℕ → ℕ → ℕ → ℕ → ℕ → ℕ → ℕ → ℕ → ℕ → List ℕ
-nine b0 b1 b2 b3 b4 b5 b6 b7 b8 = b0 ∷ b1 ∷ b2 ∷ b3 ∷ b4 ∷ b5 ∷ b6 ∷ b7 ∷ b8 ∷ replicate 19 0
+nine b0 b1 b2 b3 b4 b5 b6 b7 b8 = 1 ∷ b0 ∷ b1 ∷ b2 ∷ b3 ∷ b4 ∷ b5 ∷ b6 ∷ b7 ∷ b8 ∷ replicate 18 0

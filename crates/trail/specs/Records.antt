@@ -14,6 +14,8 @@ use Rattle.machine.specs.declared.Machine.{Machine}
 use Rattle.machine.specs.declared.Place.{Place}
 use Rattle.machine.specs.declared.Place.the-variants.{Main, Port}
 use Rattle.trail.specs.declared.OldValues.{OldValues}
+use Rattle.trail.specs.declared.Kind.{Kind}
+use Rattle.trail.specs.declared.Kind.the-variants.{FromOld, Step, Reset, Force, Set}
 use Rattle.trail.specs.declared.Word.{Word}
 use Rattle.trail.specs.declared.Word.the-variants.{Kept, Changed}
 use Rattle.trail.specs.declared.Added.{Added}
@@ -37,16 +39,23 @@ from-marks o =
     ++ (bytes-if (marked 8 (o .marks)) (o .place)
     ++ bytes-if (marked 8 (o .marks)) (o .value))))))
 
--- The bytes before L. Nothing stands before the marks.
+-- The bytes before L, in the new form, where the kind stands before the marks, or in the old one (document 02, W12).
+abbrev pub body-in : Bool → OldValues → List ℕ
+body-in kinds o = bytes-if kinds (o .kind) ++ from-marks o
+
 abbrev pub body : OldValues → List ℕ
-body o = from-marks o
+body o = body-in true o
 
 -- A record: its body, and L.
-unfoldable pub record-bytes : OldValues → List ℕ
-record-bytes o = body o ++ (length (body o) ∷ [])
+unfoldable pub record-in : Bool → OldValues → List ℕ
+record-in kinds o = body-in kinds o ++ (length (body-in kinds o) ∷ [])
 
--- What a record can hold, with the number of a word's place below `places`.
-pub record Good (places : ℕ) (o : OldValues) : Type 0 where
+abbrev pub record-bytes : OldValues → List ℕ
+record-bytes o = record-in true o
+
+-- What a record can hold, with the number of a word's place below `places`. In the old form its kind is read as 0.
+pub record GoodIn (kinds : Bool) (places : ℕ) (o : OldValues) : Type 0 where
+  pub kind : GoodIf kinds 5 (o .kind)
   pub marks : o .marks < 64
   pub p : o .p < 2 ^ 20
   pub a : GoodIf (marked 1 (o .marks)) (2 ^ 32) (o .a)
@@ -54,6 +63,17 @@ pub record Good (places : ℕ) (o : OldValues) : Type 0 where
   pub y : GoodIf (marked 4 (o .marks)) (2 ^ 32) (o .y)
   pub place : GoodIf (marked 8 (o .marks)) places (o .place)
   pub value : GoodIf (marked 8 (o .marks)) (2 ^ 32) (o .value)
+
+abbrev pub Good : ℕ → OldValues → Type 0
+Good places o = GoodIn true places o
+
+-- The kinds: 1 step, 2 reset, 3 force, 4 set by hand, 0 for a record from an old trail.
+abbrev pub kind-number : Kind → ℕ
+kind-number FromOld = 0
+kind-number Step = 1
+kind-number Reset = 2
+kind-number Force = 3
+kind-number Set = 4
 
 -- ---- the number of a word's place: its address, plus 1,048,576 for ports
 
@@ -98,9 +118,10 @@ marks-of old new w =
 abbrev pub old-if-changed : ℕ → ℕ → ℕ
 old-if-changed old new = cond (differs old new) old 0
 
-unfoldable pub old-values : Machine → Machine → Word → OldValues
-old-values old new w =
+unfoldable pub old-values : Kind → Machine → Machine → Word → OldValues
+old-values k old new w =
     record {
+      kind = kind-number k;
       marks = marks-of old new w;
       p = old .p;
       a = old-if-changed (old .a) (new .a);
@@ -117,11 +138,11 @@ changed-word old new none = Kept
 changed-word old new (some q) =
     cond (eqb (word-at old q) (word-at new q)) Kept (Changed (place-of q) (word-at old q))
 
-abbrev pub old-values-of : State → State → Option Where → OldValues
-old-values-of old new q = old-values (machine-of old) (machine-of new) (changed-word (old .0) (new .0) q)
+abbrev pub old-values-of : Kind → State → State → Option Where → OldValues
+old-values-of k old new q = old-values k (machine-of old) (machine-of new) (changed-word (old .0) (new .0) q)
 
-abbrev pub record-of : State → State → Option Where → List ℕ
-record-of old new q = record-bytes (old-values-of old new q)
+abbrev pub record-of : Kind → State → State → Option Where → List ℕ
+record-of k old new q = record-bytes (old-values-of k old new q)
 
 -- ---- the old values put back: what is not marked stays
 

@@ -4,8 +4,18 @@ use machine::Place;
 pub mod numbers;
 pub mod records;
 
-// What a record holds: the marks, and the old values. What is not marked is 0.
+// Who made a record (document 02, W12): its kind, the record's first number.
+pub enum Kind {
+    FromOld,
+    Step,
+    Reset,
+    Force,
+    Set,
+}
+
+// What a record holds: its kind, the marks, and the old values. What is not marked is 0.
 pub struct OldValues {
+    pub kind: u32,
     pub marks: u32,
     pub p: u32,
     pub a: u32,

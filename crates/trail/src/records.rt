@@ -1,6 +1,7 @@
 // A record of old values, made whole and then added to the trail (document 01, "The trail").
 use crate::Added;
 use crate::FIRST_PORT;
+use crate::Kind;
 use crate::OldValues;
 use crate::Word;
 use crate::numbers::group;
@@ -18,7 +19,7 @@ ghost use Rattle.machine.specs.Held.{where-of};
 ghost use Rattle.trail.specs.Numbers.{groups, Put};
 ghost use Rattle.trail.specs.OneChange.{closed, nine, one-value, registers-kept, register-changed, Register};
 ghost use Rattle.trail.specs.declared.Word.the-variants.{Kept, Changed};
-ghost use Rattle.trail.specs.Records.{Addressed, Good, added, old-values, place-number, record-bytes, word-changed, word-place, word-value};
+ghost use Rattle.trail.specs.Records.{Addressed, Good, added, body, kind-number, old-values, place-number, record-bytes, word-changed, word-place, word-value};
 
 // A record, made whole before room is judged: the first `len` bytes of `bytes`.
 pub struct Record {
@@ -80,12 +81,26 @@ fn word_value(word: Word) -> u32
     }
 }
 
-// What an operation's record holds, by the machine before it, the machine after it and the word that it changed.
-pub fn old_values(old: Machine, new: Machine, word: Word) -> OldValues
+// The number of a kind.
+fn kind_number(kind: Kind) -> u32
+    ensures { λ r. ⌜ r ≡ kind-number kind ⌝ }
+{
+    match kind {
+        Kind::FromOld => 0,
+        Kind::Step => 1,
+        Kind::Reset => 2,
+        Kind::Force => 3,
+        Kind::Set => 4,
+    }
+}
+
+// What an operation's record holds, by its kind, the machine before it, the machine after it and the word that it changed.
+pub fn old_values(kind: Kind, old: Machine, new: Machine, word: Word) -> OldValues
     requires { ⌜ Addressed word ⌝ }
-    ensures { λ r. ⌜ r ≡ old-values old new word ⌝ }
+    ensures { λ r. ⌜ r ≡ old-values kind old new word ⌝ }
 {
     OldValues {
+        kind: kind_number(kind),
         marks: weight(old.a != new.a, 1)
             + weight(old.x != new.x, 2)
             + weight(old.y != new.y, 4)
@@ -103,12 +118,11 @@ pub fn old_values(old: Machine, new: Machine, word: Word) -> OldValues
 
 // Puts the bytes of a record, L last, and answers their count.
 fn fill(bytes: &mut [u8; 28], o: OldValues) -> usize
-    requires { ⌜ (Good (2 ^ 21) o) × (length (now bytes) ≡ 28) ⌝ }
+    requires { ⌜ (Good (2 ^ 21) o) × (length (body o) ≤ 27) × (length (now bytes) ≡ 28) ⌝ }
     ensures { λ n. ⌜ Put 0 (record-bytes o) (now (bytes .entry)) (now (bytes .exit)) n ⌝ }
 {
     let m = o.marks;
-    // Nothing stands before the marks.
-    let at_marks = 0;
+    let at_marks = put_number(bytes, 0, o.kind);
     let at_p = put_number(bytes, at_marks, m);
     let at_a = put_number(bytes, at_p, o.p);
     let at_x = put_if(m / 1 % 2 == 1, bytes, at_a, o.a);
@@ -136,9 +150,10 @@ fn copy(trail: &mut [u8], used: usize, bytes: &[u8; 28], n: usize) -> Added
     Added::Used(used + n)
 }
 
-// Adds the record of any old values.
+// Adds the record of old values whose bytes before L are at most 27: only a word beside all three registers, each with its longest number, has
+// one more, and no operation changes those.
 pub fn add(trail: &mut [u8], used: usize, o: OldValues) -> Added
-    requires { ⌜ (used ≤ length (now trail)) × Good (2 ^ 21) o ⌝ }
+    requires { ⌜ (used ≤ length (now trail)) × Good (2 ^ 21) o × (length (body o) ≤ 27) ⌝ }
     ensures { λ r. ⌜ (r, now (trail .exit)) ≡ added (now (trail .entry)) used (record-bytes o) ⌝ }
 {
     let mut r = Record {
@@ -152,7 +167,7 @@ pub fn add(trail: &mut [u8], used: usize, o: OldValues) -> Added
 // The records of steps, which change at most one register or one word. What they add is what `add` would; most are short, and those are made
 // without a loop.
 
-// Adds a record of at most nine bytes: the first `len` of them, L last.
+// Adds a step's record of at most ten bytes: the first `len` of the kind 1 and these nine, L last.
 fn add_short(
     trail: &mut [u8],
     used: usize,
@@ -167,19 +182,20 @@ fn add_short(
     b7: u8,
     b8: u8,
 ) -> Added
-    requires { ⌜ (used ≤ length (now trail)) × (len ≤ 9) ⌝ }
+    requires { ⌜ (used ≤ length (now trail)) × (len ≤ 10) ⌝ }
     ensures { λ r. ⌜ (r, now (trail .exit)) ≡ added (now (trail .entry)) used (take len (nine b0 b1 b2 b3 b4 b5 b6 b7 b8)) ⌝ }
 {
     let mut bytes = [0u8; 28];
-    bytes[0] = b0;
-    bytes[1] = b1;
-    bytes[2] = b2;
-    bytes[3] = b3;
-    bytes[4] = b4;
-    bytes[5] = b5;
-    bytes[6] = b6;
-    bytes[7] = b7;
-    bytes[8] = b8;
+    bytes[0] = 1;
+    bytes[1] = b0;
+    bytes[2] = b1;
+    bytes[3] = b2;
+    bytes[4] = b3;
+    bytes[5] = b4;
+    bytes[6] = b5;
+    bytes[7] = b6;
+    bytes[8] = b7;
+    bytes[9] = b8;
     let r = Record { bytes, len };
     copy(trail, used, &r.bytes, r.len)
 }
@@ -187,10 +203,11 @@ fn add_short(
 // Puts the bytes of a record with no value, L last, and answers their count.
 fn fill_marks_and_p(bytes: &mut [u8; 28], marks: u32, p: u32) -> usize
     requires { ⌜ (marks < 64) × (p < 2 ^ 20) × (length (now bytes) ≡ 28) ⌝ }
-    ensures { λ n. ⌜ Put 0 (closed (marks ∷ groups p)) (now (bytes .entry)) (now (bytes .exit)) n ⌝ }
+    ensures { λ n. ⌜ Put 0 (closed (1 ∷ (marks ∷ groups p))) (now (bytes .entry)) (now (bytes .exit)) n ⌝ }
 {
-    bytes[0] = marks as u8;
-    let n = put_number(bytes, 1, p);
+    bytes[0] = 1;
+    bytes[1] = marks as u8;
+    let n = put_number(bytes, 2, p);
     bytes[n] = n as u8;
     n + 1
 }
@@ -198,7 +215,7 @@ fn fill_marks_and_p(bytes: &mut [u8; 28], marks: u32, p: u32) -> usize
 // Adds a record with no value: the marks and P. A call of `add` in its place made every step five instructions longer.
 fn add_marks_and_p(trail: &mut [u8], used: usize, marks: u32, p: u32) -> Added
     requires { ⌜ (used ≤ length (now trail)) × (marks < 64) × (p < 2 ^ 20) ⌝ }
-    ensures { λ r. ⌜ (r, now (trail .exit)) ≡ added (now (trail .entry)) used (closed (marks ∷ groups p)) ⌝ }
+    ensures { λ r. ⌜ (r, now (trail .exit)) ≡ added (now (trail .entry)) used (closed (1 ∷ (marks ∷ groups p))) ⌝ }
 {
     let mut r = Record {
         bytes: [0; 28],
@@ -215,17 +232,17 @@ pub fn add_flags(trail: &mut [u8], used: usize, p: u32, b: bool, stop: bool) -> 
 {
     let marks = weight(b, 16) + weight(stop, 32);
     if p < 128 {
-        return add_short(trail, used, 3, marks as u8, p as u8, 2, 0, 0, 0, 0, 0, 0);
+        return add_short(trail, used, 4, marks as u8, p as u8, 3, 0, 0, 0, 0, 0, 0);
     }
     if p < 16384 {
         return add_short(
             trail,
             used,
-            4,
+            5,
             marks as u8,
             group(p),
             (p / 128) as u8,
-            3,
+            4,
             0,
             0,
             0,
@@ -241,8 +258,9 @@ fn fill_value(bytes: &mut [u8; 28], marks: u32, p: u32, place: u32, v: u32) -> u
     requires { ⌜ (marks < 64) × (p < 2 ^ 20) × (place < 2 ^ 21) × (length (now bytes) ≡ 28) ⌝ }
     ensures { λ n. ⌜ Put 0 (one-value marks p place v) (now (bytes .entry)) (now (bytes .exit)) n ⌝ }
 {
-    bytes[0] = marks as u8;
-    let at_place = put_number(bytes, 1, p);
+    bytes[0] = 1;
+    bytes[1] = marks as u8;
+    let at_place = put_number(bytes, 2, p);
     let at_value = put_if(marks / 8 % 2 == 1, bytes, at_place, place);
     let n = put_number(bytes, at_value, v);
     bytes[n] = n as u8;
@@ -266,98 +284,10 @@ fn add_value(trail: &mut [u8], used: usize, marks: u32, p: u32, place: u32, v: u
 // each length: held in a local, they made a step up to three instructions longer.
 fn add_with_p_of_one_byte(trail: &mut [u8], used: usize, marks: u8, p: u8, v: u32) -> Added
     requires { ⌜ (used ≤ length (now trail)) × (p < 128) ⌝ }
-    ensures { λ r. ⌜ (r, now (trail .exit)) ≡ added (now (trail .entry)) used (closed (marks ∷ (groups p ++ groups v))) ⌝ }
+    ensures { λ r. ⌜ (r, now (trail .exit)) ≡ added (now (trail .entry)) used (closed (1 ∷ (marks ∷ (groups p ++ groups v)))) ⌝ }
 {
     if v < 128 {
-        return add_short(trail, used, 4, marks, p, v as u8, 3, 0, 0, 0, 0, 0);
-    }
-    if v < 16384 {
-        return add_short(
-            trail,
-            used,
-            5,
-            marks,
-            p,
-            group(v),
-            (v / 128) as u8,
-            4,
-            0,
-            0,
-            0,
-            0,
-        );
-    }
-    let second = group(v / 128);
-    if v < 2097152 {
-        return add_short(
-            trail,
-            used,
-            6,
-            marks,
-            p,
-            group(v),
-            second,
-            (v / 128 / 128) as u8,
-            5,
-            0,
-            0,
-            0,
-        );
-    }
-    let third = group(v / 128 / 128);
-    if v < 268435456 {
-        return add_short(
-            trail,
-            used,
-            7,
-            marks,
-            p,
-            group(v),
-            second,
-            third,
-            (v / 128 / 128 / 128) as u8,
-            6,
-            0,
-            0,
-        );
-    }
-    let fourth = group(v / 128 / 128 / 128);
-    add_short(
-        trail,
-        used,
-        8,
-        marks,
-        p,
-        group(v),
-        second,
-        third,
-        fourth,
-        (v / 128 / 128 / 128 / 128) as u8,
-        7,
-        0,
-    )
-}
-
-// The same with a P of two bytes.
-fn add_with_p_of_two_bytes(trail: &mut [u8], used: usize, marks: u8, p: u32, v: u32) -> Added
-    requires { ⌜ (used ≤ length (now trail)) × (128 ≤ p) × (p < 16384) ⌝ }
-    ensures { λ r. ⌜ (r, now (trail .exit)) ≡ added (now (trail .entry)) used (closed (marks ∷ (groups p ++ groups v))) ⌝ }
-{
-    if v < 128 {
-        return add_short(
-            trail,
-            used,
-            5,
-            marks,
-            group(p),
-            (p / 128) as u8,
-            v as u8,
-            4,
-            0,
-            0,
-            0,
-            0,
-        );
+        return add_short(trail, used, 5, marks, p, v as u8, 4, 0, 0, 0, 0, 0);
     }
     if v < 16384 {
         return add_short(
@@ -365,11 +295,11 @@ fn add_with_p_of_two_bytes(trail: &mut [u8], used: usize, marks: u8, p: u32, v: 
             used,
             6,
             marks,
-            group(p),
-            (p / 128) as u8,
+            p,
             group(v),
             (v / 128) as u8,
             5,
+            0,
             0,
             0,
             0,
@@ -382,12 +312,12 @@ fn add_with_p_of_two_bytes(trail: &mut [u8], used: usize, marks: u8, p: u32, v: 
             used,
             7,
             marks,
-            group(p),
-            (p / 128) as u8,
+            p,
             group(v),
             second,
             (v / 128 / 128) as u8,
             6,
+            0,
             0,
             0,
         );
@@ -399,13 +329,13 @@ fn add_with_p_of_two_bytes(trail: &mut [u8], used: usize, marks: u8, p: u32, v: 
             used,
             8,
             marks,
-            group(p),
-            (p / 128) as u8,
+            p,
             group(v),
             second,
             third,
             (v / 128 / 128 / 128) as u8,
             7,
+            0,
             0,
         );
     }
@@ -415,6 +345,94 @@ fn add_with_p_of_two_bytes(trail: &mut [u8], used: usize, marks: u8, p: u32, v: 
         used,
         9,
         marks,
+        p,
+        group(v),
+        second,
+        third,
+        fourth,
+        (v / 128 / 128 / 128 / 128) as u8,
+        8,
+        0,
+    )
+}
+
+// The same with a P of two bytes.
+fn add_with_p_of_two_bytes(trail: &mut [u8], used: usize, marks: u8, p: u32, v: u32) -> Added
+    requires { ⌜ (used ≤ length (now trail)) × (128 ≤ p) × (p < 16384) ⌝ }
+    ensures { λ r. ⌜ (r, now (trail .exit)) ≡ added (now (trail .entry)) used (closed (1 ∷ (marks ∷ (groups p ++ groups v)))) ⌝ }
+{
+    if v < 128 {
+        return add_short(
+            trail,
+            used,
+            6,
+            marks,
+            group(p),
+            (p / 128) as u8,
+            v as u8,
+            5,
+            0,
+            0,
+            0,
+            0,
+        );
+    }
+    if v < 16384 {
+        return add_short(
+            trail,
+            used,
+            7,
+            marks,
+            group(p),
+            (p / 128) as u8,
+            group(v),
+            (v / 128) as u8,
+            6,
+            0,
+            0,
+            0,
+        );
+    }
+    let second = group(v / 128);
+    if v < 2097152 {
+        return add_short(
+            trail,
+            used,
+            8,
+            marks,
+            group(p),
+            (p / 128) as u8,
+            group(v),
+            second,
+            (v / 128 / 128) as u8,
+            7,
+            0,
+            0,
+        );
+    }
+    let third = group(v / 128 / 128);
+    if v < 268435456 {
+        return add_short(
+            trail,
+            used,
+            9,
+            marks,
+            group(p),
+            (p / 128) as u8,
+            group(v),
+            second,
+            third,
+            (v / 128 / 128 / 128) as u8,
+            8,
+            0,
+        );
+    }
+    let fourth = group(v / 128 / 128 / 128);
+    add_short(
+        trail,
+        used,
+        10,
+        marks,
         group(p),
         (p / 128) as u8,
         group(v),
@@ -422,7 +440,7 @@ fn add_with_p_of_two_bytes(trail: &mut [u8], used: usize, marks: u8, p: u32, v: 
         third,
         fourth,
         (v / 128 / 128 / 128 / 128) as u8,
-        8,
+        9,
     )
 }
 

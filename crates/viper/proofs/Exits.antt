@@ -15,6 +15,8 @@ use Rattle.machine.specs.Held.{ram, state, machine-of, where-of, place-of}
 use Rattle.machine.specs.declared.Machine.{Machine}
 use Rattle.machine.specs.declared.Place.{Place}
 use Rattle.machine.specs.declared.Place.the-variants as place
+use Rattle.trail.specs.declared.Kind.the-variants as kind
+use Rattle.trail.specs.declared.Kind.{Kind}
 use Rattle.trail.specs.Records.{record-bytes, old-values, put, added, restored, marked, where-of-number}
 use Rattle.trail.proofs.NewestReadsBack.{newest-fitted-stands, fits-fitted}
 use Rattle.trail.specs.declared.Newest.{Newest}
@@ -146,41 +148,41 @@ alone true r = refl
 alone false r = refl
 
 module _ (m : Machine) (r : Mem) (trail : List ℕ) (used : ℕ) where
-  pub reset-is : noted m (record { a = 0; x = 0; y = 0; p = 0; b = false; stop = false }) r trail used ≡ outcome reset (record { state = state m r; trail = trail; used = used })
+  pub reset-is : noted kind.Reset m (record { a = 0; x = 0; y = 0; p = 0; b = false; stop = false }) r trail used ≡ outcome reset (record { state = state m r; trail = trail; used = used })
   unfolding noted answer
   reset-is = rw (alone (ltb (length trail - used) (length (record-for reset (state m r)))) TrailFull)
 
-  pub force-is : noted m (record { a = m .a; x = m .x; y = m .y; p = m .p; b = m .b; stop = true }) r trail used ≡ outcome force (record { state = state m r; trail = trail; used = used })
+  pub force-is : noted kind.Force m (record { a = m .a; x = m .x; y = m .y; p = m .p; b = m .b; stop = true }) r trail used ≡ outcome force (record { state = state m r; trail = trail; used = used })
   unfolding noted answer
   force-is = rw (alone (ltb (length trail - used) (length (record-for force (state m r)))) TrailFull)
 
-module _ (m after : Machine) (r : Mem) (trail : List ℕ) (used : ℕ) where
+module _ (k : Kind) (m after : Machine) (r : Mem) (trail : List ℕ) (used : ℕ) where
   abbrev as-was : Bench
   as-was = record { state = state m r; trail = trail; used = used }
 
-  pub noted-p : 2 ^ 20 ≤ m .p → record { answered = Refused PTooLarge; bench = as-was } ≡ noted m after r trail used
+  pub noted-p : 2 ^ 20 ≤ m .p → record { answered = Refused PTooLarge; bench = as-was } ≡ noted k m after r trail used
   unfolding noted
   noted-p h = rw (le-leb (2 ^ 20) (m .p) h)
 
   module _ (low : m .p < 2 ^ 20) where
-    pub noted-count : length trail < used → record { answered = Refused CountTooLarge; bench = as-was } ≡ noted m after r trail used
+    pub noted-count : length trail < used → record { answered = Refused CountTooLarge; bench = as-was } ≡ noted k m after r trail used
     unfolding noted
     noted-count h = rw (lt-leb (2 ^ 20) (m .p) low, lt-ltb (length trail) used h)
 
-    module _ (within : used ≤ length trail) (o : OldValues) (a : Added) (t : List ℕ) (ho : o ≡ old-values m after kept.Kept) (ha : (a, t) ≡ added trail used (record-bytes o)) where
+    module _ (within : used ≤ length trail) (o : OldValues) (a : Added) (t : List ℕ) (ho : o ≡ old-values k m after kept.Kept) (ha : (a, t) ≡ added trail used (record-bytes o)) where
       abbrev bytes : List ℕ
-      bytes = record-bytes (old-values m after kept.Kept)
+      bytes = record-bytes (old-values k m after kept.Kept)
 
       added-is : _≡_ {A = Added × List ℕ} (a, t) (cond (ltb (length trail - used) (length bytes)) (added·is.Full, trail) (added·is.Used (used + length bytes), put trail used bytes))
       unfolding added
       added-is = ha ∙ ap (λ (q : OldValues). added trail used (record-bytes q)) ho
 
-      noted-is : noted m after r trail used
+      noted-is : noted k m after r trail used
           ≡ noted-by (when (ltb (length trail - used) (length bytes)) TrailFull) (record { state = state after r; trail = put trail used bytes; used = used + length bytes }) as-was
       unfolding noted
       noted-is = rw (lt-leb (2 ^ 20) (m .p) low, le-ltb (length trail) used within)
 
-      pub noted-full : a ≡ added·is.Full → record { answered = Refused TrailFull; bench = record { state = state m r; trail = t; used = used } } ≡ noted m after r trail used
+      pub noted-full : a ≡ added·is.Full → record { answered = Refused TrailFull; bench = record { state = state m r; trail = t; used = used } } ≡ noted k m after r trail used
       noted-full e = go (ltb (length trail - used) (length bytes)) added-is ∙ sym noted-is
         where
           go : (f : Bool) → _≡_ {A = Added × List ℕ} (a, t) (cond f (added·is.Full, trail) (added·is.Used (used + length bytes), put trail used bytes))
@@ -192,7 +194,7 @@ module _ (m after : Machine) (r : Mem) (trail : List ℕ) (used : ℕ) where
               let z : _≡_ {A = ℕ} 0 1 = cc in
               absurd (omega arith)
 
-      pub noted-done : (n : ℕ) → a ≡ added·is.Used n → record { answered = Done; bench = record { state = state after r; trail = t; used = n } } ≡ noted m after r trail used
+      pub noted-done : (n : ℕ) → a ≡ added·is.Used n → record { answered = Done; bench = record { state = state after r; trail = t; used = n } } ≡ noted k m after r trail used
       noted-done n e = go (ltb (length trail - used) (length bytes)) added-is ∙ sym noted-is
         where
           go : (f : Bool) → _≡_ {A = Added × List ℕ} (a, t) (cond f (added·is.Full, trail) (added·is.Used (used + length bytes), put trail used bytes))
@@ -245,16 +247,16 @@ module _ (m : Machine) (main ports trail : List ℕ) (used : ℕ) (q : Place) (v
           low-of : (w : Where) → fitted (ram main ports) w ≡ true → w .1 < 2 ^ 20
           low-of w e = fitted-low (ram main ports) w (l .main-le) (l .ports-le) e
 
-      set-finished : finished m (record { machine = m; written = write.Word q v }) (ram main ports) trail used
+      set-finished : finished kind.Set m (record { machine = m; written = write.Word q v }) (ram main ports) trail used
           ≡ cond (ltb (length trail - used) (length rec)) (left added·is.Full (ram main ports) trail)
           (left (added·is.Used (used + length rec)) (with-word (ram main ports) (where-of q) v) (put trail used rec))
       set-finished =
           let w = where-of q in
           let b = ram main ports in
           let e : write.Word (place-of w) (word-at (with-word b w v) w) ≡ write.Word q v = rw (place-where q, word-back b (w .0) (w .1) v has) in
-          rw (← e) (finished-between (bs .state) (next (set-word q v) (bs .state)) (some w) trail used (put-again b w v has))
+          rw (← e) (finished-between kind.Set (bs .state) (next (set-word q v) (bs .state)) (some w) trail used (put-again b w v has))
 
-      module _ (x : Added) (r : Mem) (t′ : List ℕ) (e : left x r t′ ≡ finished m (record { machine = m; written = write.Word q v }) (ram main ports) trail used) where
+      module _ (x : Added) (r : Mem) (t′ : List ℕ) (e : left x r t′ ≡ finished kind.Set m (record { machine = m; written = write.Word q v }) (ram main ports) trail used) where
         pub set-full : x ≡ added·is.Full → record { answered = Refused TrailFull; bench = record { state = state m r; trail = t′; used = used } } ≡ outcome (set-word q v) bs
         set-full z = go (ltb (length trail - used) (length rec)) refl (e ∙ set-finished)
           where

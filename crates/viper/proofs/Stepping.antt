@@ -20,6 +20,8 @@ use Rattle.machine.specs.Held.{ram, state, machine-of, place-of, where-of}
 use Rattle.machine.specs.declared.Machine.{Machine}
 use Rattle.machine.specs.declared.Ending.{Ending}
 use Rattle.machine.specs.declared.Ending.the-variants as ending
+use Rattle.trail.specs.declared.Kind.the-variants as kind
+use Rattle.trail.specs.declared.Kind.{Kind}
 use Rattle.trail.specs.Records.{record-of, changed-word, put, added}
 use Rattle.trail.specs.declared.Added.{Added}
 use Rattle.trail.specs.declared.Added.the-variants as added·is
@@ -82,17 +84,17 @@ written-low computes w x y q e = let z : _≡_ {A = ℕ} 0 1 = cc in absurd (ome
 
 -- ---- a change from one state to another, once finished: its record has no room, or it stands in the trail
 
-pub finished-between : (old new : State) (q : Option Where) (trail : List ℕ) (used : ℕ) → rewritten (old .0) (writing q (new .0)) ≡ new .0
-    → finished (machine-of old) (record { machine = machine-of new; written = writing q (new .0) }) (old .0) trail used
-    ≡ cond (ltb (length trail - used) (length (record-of old new q))) (left added·is.Full (old .0) trail)
-    (left (added·is.Used (used + length (record-of old new q))) (new .0) (put trail used (record-of old new q)))
+pub finished-between : (k : Kind) (old new : State) (q : Option Where) (trail : List ℕ) (used : ℕ) → rewritten (old .0) (writing q (new .0)) ≡ new .0
+    → finished k (machine-of old) (record { machine = machine-of new; written = writing q (new .0) }) (old .0) trail used
+    ≡ cond (ltb (length trail - used) (length (record-of k old new q))) (left added·is.Full (old .0) trail)
+    (left (added·is.Used (used + length (record-of k old new q))) (new .0) (put trail used (record-of k old new q)))
 unfolding finished added
-finished-between old new q trail used h = rw (changing-is (old .0) (new .0) q) (go (ltb (length trail - used) (length (record-of old new q))))
+finished-between k old new q trail used h = rw (changing-is (old .0) (new .0) q) (go (ltb (length trail - used) (length (record-of k old new q))))
   where
-    go : (f : Bool) → finishing (cond f (added·is.Full, trail) (added·is.Used (used + length (record-of old new q)), put trail used (record-of old new q))) (old .0) (writing q (new .0))
-        ≡ cond f (left added·is.Full (old .0) trail) (left (added·is.Used (used + length (record-of old new q))) (new .0) (put trail used (record-of old new q)))
+    go : (f : Bool) → finishing (cond f (added·is.Full, trail) (added·is.Used (used + length (record-of k old new q)), put trail used (record-of k old new q))) (old .0) (writing q (new .0))
+        ≡ cond f (left added·is.Full (old .0) trail) (left (added·is.Used (used + length (record-of k old new q))) (new .0) (put trail used (record-of k old new q)))
     go true = refl
-    go false = ap (λ (r : Mem). left (added·is.Used (used + length (record-of old new q))) r (put trail used (record-of old new q))) h
+    go false = ap (λ (r : Mem). left (added·is.Used (used + length (record-of k old new q))) r (put trail used (record-of k old new q))) h
 
 -- ---- the refusals of a step whose first three do not apply
 
@@ -162,13 +164,13 @@ module _ (m : Machine) (main ports trail : List ℕ) (used : ℕ) (l : Lawful (m
     stores-are = rw (next-by-parts s g) (after-ram (part s) (word s) s no-lack)
 
     -- the change once finished: refusal 6, or the operation done
-    finished-step : finished m c (ram main ports) trail used
+    finished-step : finished kind.Step m c (ram main ports) trail used
         ≡ cond (ltb (length trail - used) (length (record-for step s))) (left added·is.Full (ram main ports) trail)
         (left (added·is.Used (used + length (record-for step s))) (NEXT s .0) (put trail used (record-for step s)))
-    finished-step = rw change-is (finished-between s (NEXT s) (written s) trail used stores-are)
+    finished-step = rw change-is (finished-between kind.Step s (NEXT s) (written s) trail used stores-are)
 
     -- the ways out of `finish`
-    pub no-room-left : (a : Added) (r : Mem) (t : List ℕ) → left a r t ≡ finished m c (ram main ports) trail used → a ≡ added·is.Full
+    pub no-room-left : (a : Added) (r : Mem) (t : List ℕ) → left a r t ≡ finished kind.Step m c (ram main ports) trail used → a ≡ added·is.Full
         → (answer (operate step) b ≡ Refused refusal.TrailFull) × (r ≡ ram main ports) × (t ≡ trail)
     no-room-left a r t h k = go (ltb (length trail - used) (length (record-for step s))) refl (h ∙ finished-step)
       where
@@ -188,7 +190,7 @@ module _ (m : Machine) (main ports trail : List ℕ) (used : ℕ) (l : Lawful (m
       pub bytes : t ≡ put trail used (record-for step s)
       pub within : used + length (record-for step s) ≤ length trail
 
-    pub stepped : (a : Added) (n : ℕ) (r : Mem) (t : List ℕ) → left a r t ≡ finished m c (ram main ports) trail used → a ≡ added·is.Used n → Stepped n r t
+    pub stepped : (a : Added) (n : ℕ) (r : Mem) (t : List ℕ) → left a r t ≡ finished kind.Step m c (ram main ports) trail used → a ≡ added·is.Used n → Stepped n r t
     stepped a n r t h k = go (ltb (length trail - used) (length (record-for step s))) refl (h ∙ finished-step)
       where
         go : (f : Bool) → ltb (length trail - used) (length (record-for step s)) ≡ f
@@ -334,13 +336,13 @@ module _ {main₀ ports₀ trail₀ : List ℕ} {m₀ : Machine} {used budget : 
         (planned-none m main ports trail count (k .lawful) (k .range) live e)
 
     module _ (c : Change) (e : phases.Go c ≡ planned (state m (ram main ports))) where
-      pub leaves-full : (a : Added) (r : Mem) (t : List ℕ) → left a r t ≡ finished m c (ram main ports) trail count → a ≡ added·is.Full
+      pub leaves-full : (a : Added) (r : Mem) (t : List ℕ) → left a r t ≡ finished kind.Step m c (ram main ports) trail count → a ≡ added·is.Full
           → record { bench = record { state = state m r; trail = t; used = count }; steps = steps; ended = ending.Full } ≡ over-and-over budget (bench m₀ main₀ ports₀ trail₀ used)
       leaves-full a r t h f =
           let o = no-room-left m main ports trail count (k .lawful) (k .range) live c e a r t h f in
           rw (o .1, o .2) (ends-refused budget _ steps (bench m main ports trail count) (k .along) refusal.TrailFull live less (o .0))
 
-      pub goes-on : (a : Added) (n : ℕ) (main′ ports′ trail′ : List ℕ) → left a (ram main′ ports′) trail′ ≡ finished m c (ram main ports) trail count → a ≡ added·is.Used n
+      pub goes-on : (a : Added) (n : ℕ) (main′ ports′ trail′ : List ℕ) → left a (ram main′ ports′) trail′ ≡ finished kind.Step m c (ram main ports) trail count → a ≡ added·is.Used n
           → Going main₀ ports₀ trail₀ m₀ used budget main′ ports′ trail′ (c .machine) n (steps + 1)
       goes-on a n main′ ports′ trail′ h f =
           let s = state m (ram main ports) in
@@ -373,7 +375,7 @@ module _ {main₀ ports₀ trail₀ : List ℕ} {m₀ : Machine} {used budget : 
           go : (p : Plan) → planned (state m (ram main ports)) ≡ p → ended a r t ≡ by-plan m (ram main ports) trail count p
               → record { bench = record { state = state m r; trail = t; used = count }; steps = steps; ended = ending.Unfitted } ≡ over-and-over budget (bench m₀ main₀ ports₀ trail₀ used)
           go phases.Lacking q z = rw (ap (λ (x : End). x .stores) z, ap (λ (x : End). x .trail) z) (leaves-unfitted (sym q))
-          go (phases.Go c) q z = absurd (not-unfitted (c .machine) (finished m c (ram main ports) trail count .answered) (sym f ∙ ap (λ (x : End). x .answer) z))
+          go (phases.Go c) q z = absurd (not-unfitted (c .machine) (finished kind.Step m c (ram main ports) trail count .answered) (sym f ∙ ap (λ (x : End). x .answer) z))
 
       pub leaves-without-room : a ≡ stepped·is.NoRoom
           → record { bench = record { state = state m r; trail = t; used = count }; steps = steps; ended = ending.Full } ≡ over-and-over budget (bench m₀ main₀ ports₀ trail₀ used)
@@ -386,7 +388,7 @@ module _ {main₀ ports₀ trail₀ : List ℕ} {m₀ : Machine} {used budget : 
               let n : _≡_ {A = ℕ} 0 1 = cc in
               absurd (omega arith)
           go (phases.Go c) q z =
-              let x = finished m c (ram main ports) trail count in
+              let x = finished kind.Step m c (ram main ports) trail count in
               let full : x .answered ≡ added·is.Full = was-full (c .machine) (x .answered) (sym f ∙ ap (λ (x : End). x .answer) z) in
               leaves-full c (sym q) added·is.Full r t (same-finish (sym full) (ap (λ (x : End). x .stores) z) (ap (λ (x : End). x .trail) z)) refl
 
@@ -401,7 +403,7 @@ module _ {main₀ ports₀ trail₀ : List ℕ} {m₀ : Machine} {used budget : 
             let n : _≡_ {A = ℕ} 0 1 = cc in
             absurd (omega arith)
         go (phases.Go c) q z =
-            let x = finished m c (ram main ports) trail count in
+            let x = finished kind.Step m c (ram main ports) trail count in
             let d : (x .answered ≡ added·is.Used n) × (m′ ≡ c .machine) = was-done (c .machine) (x .answered) m′ n (sym f ∙ ap (λ (x : End). x .answer) z) in
             rw (d .1) (goes-on c (sym q) (added·is.Used n) n main′ ports′ trail′ (same-finish (sym (d .0)) (ap (λ (x : End). x .stores) z) (ap (λ (x : End). x .trail) z)) refl)
 

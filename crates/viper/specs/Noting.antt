@@ -10,6 +10,7 @@ use Rattle.report.specs.AnnexA.{Mem}
 use Rattle.report.specs.Parts.{with-word}
 use Rattle.machine.specs.Held.{state}
 use Rattle.machine.specs.declared.Machine.{Machine}
+use Rattle.trail.specs.declared.Kind.{Kind}
 use Rattle.trail.specs.Records.{marked, where-of-number, old-values, record-bytes, put}
 use Rattle.trail.specs.declared.OldValues.{OldValues}
 use Rattle.trail.specs.declared.Word.the-variants.{Kept}
@@ -22,9 +23,9 @@ use Rattle.viper.specs.declared.Answer.{Answer}
 abbrev pub noted-by : Answer → Bench → Bench → Outcome
 noted-by a done b = record { answered = a; bench = if-done a done b }
 
-unfoldable pub noted : Machine → Machine → Mem → List ℕ → ℕ → Outcome
-noted m after ram trail used =
-    let r = record-bytes (old-values m after Kept) in
+unfoldable pub noted : Kind → Machine → Machine → Mem → List ℕ → ℕ → Outcome
+noted k m after ram trail used =
+    let r = record-bytes (old-values k m after Kept) in
     noted-by
     (or-else (when (leb (2 ^ 20) (m .p)) PTooLarge)
     (or-else (when (ltb (length trail) used) CountTooLarge)

@@ -10,6 +10,8 @@ use Rattle.report.specs.Section3.{State, NEXT}
 use Rattle.report.specs.Parts.{Where, fitted, with-word, written}
 use Rattle.machine.specs.Held.{where-of}
 use Rattle.machine.specs.declared.Place.{Place}
+use Rattle.trail.specs.declared.Kind.the-variants as kind
+use Rattle.trail.specs.declared.Kind.{Kind}
 use Rattle.trail.specs.Records.{record-of, put}
 use Rattle.trail.specs.Newest.{newest-fitted}
 use Rattle.trail.specs.declared.Newest.{Newest}
@@ -48,9 +50,16 @@ writes-at reset s = none
 writes-at force s = none
 writes-at (set-word q v) s = some (where-of q)
 
+-- Its kind (document 02, W12).
+abbrev pub kind-of : Operation → Kind
+kind-of step = kind.Step
+kind-of reset = kind.Reset
+kind-of force = kind.Force
+kind-of (set-word q v) = kind.Set
+
 -- Its record, of old values.
 abbrev pub record-for : Operation → State → List ℕ
-record-for e s = record-of s (next e s) (writes-at e s)
+record-for e s = record-of (kind-of e) s (next e s) (writes-at e s)
 
 -- ---- the calls, and the table of refusals
 

@@ -17,6 +17,7 @@ use step::finish::put_word;
 use step::finish::word_at;
 use step::phases::step_once;
 use trail::Added;
+use trail::Kind;
 use trail::Word;
 ghost use mathlib.Core.Path.{_≡_};
 ghost use mathlib.Core.List.{List};
@@ -218,8 +219,8 @@ pub fn run(
 }
 
 // An operation on the machine alone: its record goes to the trail, whatever the stores hold.
-fn note(m: Machine, after: Machine, trail: &mut [u8], used: usize) -> Outcome
-    ensures { λ r. ⌜ ((main ports : List ℕ) → told r main ports (now (trail .exit)) ≡ noted m after (ram main ports) (now (trail .entry)) used) ⌝ }
+fn note(kind: Kind, m: Machine, after: Machine, trail: &mut [u8], used: usize) -> Outcome
+    ensures { λ r. ⌜ ((main ports : List ℕ) → told r main ports (now (trail .exit)) ≡ noted kind m after (ram main ports) (now (trail .entry)) used) ⌝ }
 {
     if m.p >= 0x10_0000 {
         return refuse(m, used, Refusal::PTooLarge);
@@ -227,7 +228,7 @@ fn note(m: Machine, after: Machine, trail: &mut [u8], used: usize) -> Outcome
     if used > trail.len() {
         return refuse(m, used, Refusal::CountTooLarge);
     }
-    let o = trail::records::old_values(m, after, Word::Kept);
+    let o = trail::records::old_values(kind, m, after, Word::Kept);
     let Added::Used(n) = trail::records::add(trail, used, o) else {
         return refuse(m, used, Refusal::TrailFull);
     };
@@ -250,7 +251,7 @@ pub fn reset(m: Machine, trail: &mut [u8], used: usize) -> Outcome
         b: false,
         stop: false,
     };
-    note(m, cleared, trail, used)
+    note(Kind::Reset, m, cleared, trail, used)
 }
 
 // Sets STOP, also when it is set already.
@@ -265,7 +266,7 @@ pub fn force(m: Machine, trail: &mut [u8], used: usize) -> Outcome
         b: m.b,
         stop: true,
     };
-    note(m, stopped, trail, used)
+    note(Kind::Force, m, stopped, trail, used)
 }
 
 // Puts a value at a main address or port number, on a halted machine too.
@@ -288,7 +289,7 @@ pub fn set(
         return refuse(m, used, Refusal::Unfitted);
     }
     let old = word_at(main, ports, place);
-    let o = trail::records::old_values(m, m, changed_to(place, old, value));
+    let o = trail::records::old_values(Kind::Set, m, m, changed_to(place, old, value));
     let Added::Used(n) = trail::records::add(trail, used, o) else {
         return refuse(m, used, Refusal::TrailFull);
     };

@@ -1,5 +1,6 @@
 -- `newest` meets its contract: L and the tests on it, then what `read_record` finds, then whether the word's place is fitted.
 -- Assumes nothing.
+use mathlib.Core.Bool.{true}
 use Prim.Native.Nat.{_-_, _^_, _<_}
 use mathlib.Core.Path.{_≡_, sym}
 use native.Mathlib.Omega.{arith}
@@ -13,19 +14,19 @@ use Rattle.reading.proofs.ReadingNumbers.{is-byte, no-byte}
 use Rattle.reading.proofs.from_end.newest.Statement.{statement}
 use Rattle.reading.proofs.from_end.newest.Tie as tie
 
--- What was read is the last byte in use, and below 28.
+-- What was read is the last byte in use, and below 29.
 L : (c : tie.After-known-told) → let a = c .before .before .before .before .before .args in
-    (getD (now (a .trail)) (a .used - 1) 0 ≡ c .before .l .given .0 .0) × (c .before .l .given .0 .0 < 28)
+    (getD (now (a .trail)) (a .used - 1) 0 ≡ c .before .l .given .0 .0) × (c .before .l .given .0 .0 < 29)
 L c =
     let a = c .before .before .before .before .before .args in
-    is-byte (now (a .trail)) (a .used - 1) (a .used) 28 (omega arith) (omega arith) (omega arith) (c .before .before .before .read-number .ensures) (c .before .l .given .1)
+    is-byte (now (a .trail)) (a .used - 1) (a .used) 29 (omega arith) (omega arith) (omega arith) (c .before .before .before .read-number .ensures) (c .before .l .given .1)
 
 -- After the tests on L, the newest record is what `read_record` found.
 found : (c : tie.After-read-record) → let a = c .before .before .before .before .before .before .before .before .args in newest (2 ^ 21) (now (a .trail)) (a .used) ≡ c .read-record .result
 found c =
     let a = c .before .before .before .before .before .before .before .before .args in
     let l = L (c .before .before .before) in
-    rw (by-L (2 ^ 21) (now (a .trail)) (a .used) (omega (arith, l)) (omega (arith, l)) (omega (arith, l)), l .0) (sym (c .read-record .ensures))
+    rw (by-L true (2 ^ 21) (now (a .trail)) (a .used) (omega (arith, l)) (omega (arith, l)) (omega (arith, l)), l .0) (sym (c .read-record .ensures))
 
 sub-end : tie.Need-sub-end
 sub-end c = search needs
@@ -43,8 +44,8 @@ returns : tie.Need-returns
 unfolding newest-fitted
 returns c =
     let a = c .before .before .before .before .args in
-    let l = no-byte (now (a .trail)) (a .used - 1) (a .used) 28 (omega arith) (omega arith) (omega arith) (c .before .before .read-number .ensures) (c .enum-told .given .1) in
-    rw (too-long (2 ^ 21) (now (a .trail)) (a .used) l)
+    let l = no-byte (now (a .trail)) (a .used - 1) (a .used) 29 (omega arith) (omega arith) (omega arith) (c .before .before .read-number .ensures) (c .enum-told .given .1) in
+    rw (too-long true (2 ^ 21) (now (a .trail)) (a .used) l)
 
 cast-n : tie.Need-cast-n
 cast-n c = search needs
@@ -53,14 +54,14 @@ returns-2 : tie.Need-returns-2
 unfolding newest-fitted
 returns-2 c =
     let a = c .before .before .before .before .before .before .args in
-    rw (too-short (2 ^ 21) (now (a .trail)) (a .used) (omega (arith, L (c .before))))
+    rw (too-short true (2 ^ 21) (now (a .trail)) (a .used) (omega (arith, L (c .before))))
 
 returns-3 : tie.Need-returns-3
 unfolding newest-fitted
 returns-3 c =
     let a = c .before .before .before .before .before .before .before .args in
     let l = L (c .before .before) in
-    rw (past-the-first (2 ^ 21) (now (a .trail)) (a .used) (omega (arith, l)) (omega (arith, l)) (omega (arith, l)))
+    rw (past-the-first true (2 ^ 21) (now (a .trail)) (a .used) (omega (arith, l)) (omega (arith, l)) (omega (arith, l)))
 
 read-record-requires : tie.Need-read-record-requires
 read-record-requires c κs = search needs

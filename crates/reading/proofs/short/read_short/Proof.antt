@@ -1,22 +1,23 @@
--- `read_short` meets its contract: L below 4, and then two bytes or three.
+-- `read_short` meets its contract: L below 5, the kind, and then two bytes or three.
 -- Assumes nothing.
-use Prim.Native.Nat.{_-_, _<_}
-use mathlib.Core.Path.{_≡_, _∙_}
+use Prim.Native.Nat.{_+_, _-_, _<_}
+use mathlib.Core.Path.{_≡_, refl}
 use native.Mathlib.Omega.{arith}
 use denote.Ref.{now}
 use lib.ListN.{getD}
 use borrow.Author.Needs.{needs}
+use Rattle.reading.specs.declared.short.ShortRecord.the-variants as short
 use Rattle.reading.proofs.ReadingNumbers.{is-byte, no-byte}
-use Rattle.reading.proofs.ShortRecords.{says-newest, too-few}
+use Rattle.reading.proofs.ShortRecords.{says-newest, too-few, past, kind-large, says-kind}
 use Rattle.reading.proofs.short.read_short.Statement.{statement}
 use Rattle.reading.proofs.short.read_short.Tie as tie
 
--- What was read is the last byte in use, and below 4.
+-- What was read is the last byte in use, and below 5.
 L : (c : tie.After-known-told) → let a = c .before .before .before .before .before .args in
-    (getD (now (a .trail)) (a .used - 1) 0 ≡ c .before .n .given .0 .0) × (c .before .n .given .0 .0 < 4)
+    (getD (now (a .trail)) (a .used - 1) 0 ≡ c .before .n .given .0 .0) × (c .before .n .given .0 .0 < 5)
 L c =
     let a = c .before .before .before .before .before .args in
-    is-byte (now (a .trail)) (a .used - 1) (a .used) 4 (omega arith) (omega arith) (omega arith) (c .before .before .before .read-number .ensures) (c .before .n .given .1)
+    is-byte (now (a .trail)) (a .used - 1) (a .used) 5 (omega arith) (omega arith) (omega arith) (c .before .before .before .read-number .ensures) (c .before .n .given .1)
 
 sub-end : tie.Need-sub-end
 sub-end c = search needs
@@ -33,28 +34,67 @@ enum-told c = search needs
 returns : tie.Need-returns
 returns c =
     let a = c .before .before .before .before .args in
-    λ main ports. no-byte (now (a .trail)) (a .used - 1) (a .used) 4 (omega arith) (omega arith) (omega arith) (c .before .before .read-number .ensures) (c .enum-told .given .1)
+    λ main ports. no-byte (now (a .trail)) (a .used - 1) (a .used) 5 (omega arith) (omega arith) (omega arith) (c .before .before .read-number .ensures) (c .enum-told .given .1)
+
+cast-l : tie.Need-cast-l
+cast-l c = search needs
+
+returns-2 : tie.Need-returns-2
+returns-2 c =
+    let a = c .before .before .before .before .before .before .args in
+    too-few (now (a .trail)) (a .used) (omega (arith, L (c .before), c .if1 .taken))
+
+returns-3 : tie.Need-returns-3
+returns-3 c =
+    let a = c .before .before .before .before .before .before .before .args in
+    let l = L (c .before .before) in
+    says-newest (now (a .trail)) (a .used) _ short.Broken (l .0) (past (now (a .trail)) (a .used - 1) _ (c .before .if1 .left) (omega (arith, l)) (c .if2 .taken))
+
+add-read-number : tie.Need-add-read-number
+add-read-number c = search needs
+
+read-number-requires-2 : tie.Need-read-number-requires-2
+read-number-requires-2 c κs = search needs
+
+enum-known-kind : tie.Need-enum-known-kind
+enum-known-kind c = search needs
+
+enum-told-2 : tie.Need-enum-told-2
+enum-told-2 c = search needs
+
+returns-4 : tie.Need-returns-4
+returns-4 c =
+    let a = c .before .before .before .before .before .before .before .before .before .before .args in
+    let s = now (a .trail) in
+    let l = L (c .before .before .before .before .before) in
+    let n = c .before .before .before .before .before .before .n .given .0 .0 in
+    let large = no-byte s (a .used - 1 - n) (a .used - 1 - n + 1) 5 refl (omega arith) (omega arith) (c .before .before .read-number2 .ensures) (c .enum-told2 .given .1) in
+    says-newest s (a .used) n short.Broken (l .0)
+    (kind-large s (a .used - 1) n (c .before .before .before .before .if1 .left) (omega (arith, l)) (c .before .before .before .if2 .left) (omega arith) large)
 
 two-bytes-requires : tie.Need-two-bytes-requires
 two-bytes-requires c κs = search needs
 
-returns-2 : tie.Need-returns-2
-returns-2 c =
-    let a = c .before .before .before .before .before .before .before .args in
-    says-newest (now (a .trail)) (a .used) 2 (c .two-bytes .result) (L (c .before .before) .0 ∙ c .before .if1 .taken) (c .two-bytes .ensures)
+returns-5 : tie.Need-returns-5
+returns-5 c =
+    let a = c .before .before .before .before .before .before .before .before .before .before .before .before .before .args in
+    let s = now (a .trail) in
+    let l = L (c .before .before .before .before .before .before .before .before) in
+    let n = c .before .before .before .before .before .before .before .before .before .n .given .0 .0 in
+    let k = is-byte s (a .used - 1 - n) (a .used - 1 - n + 1) 5 refl (omega arith) (omega arith) (c .before .before .before .before .before .read-number2 .ensures) (c .before .before .before .kind .given .1) in
+    says-kind s (a .used) n (l .0) (c .before .before .before .before .before .before .before .if1 .left) (omega (arith, l)) (c .before .before .before .before .before .before .if2 .left) (omega arith) _ (k .0) (k .1) 2 (c .before .if3 .taken) (c .two-bytes .result) (c .two-bytes .ensures)
 
 three-bytes-requires : tie.Need-three-bytes-requires
 three-bytes-requires c κs = search needs
 
-returns-3 : tie.Need-returns-3
-returns-3 c =
-    let a = c .before .before .before .before .before .before .before .before .args in
-    says-newest (now (a .trail)) (a .used) 3 (c .three-bytes .result) (L (c .before .before .before) .0 ∙ c .before .if2 .taken) (c .three-bytes .ensures)
-
-returns-4 : tie.Need-returns-4
-returns-4 c =
-    let a = c .before .before .before .before .before .before .before .args in
-    too-few (now (a .trail)) (a .used) (omega (arith, L (c .before .before), c .before .if1 .left, c .if2 .left))
+returns-6 : tie.Need-returns-6
+returns-6 c =
+    let a = c .before .before .before .before .before .before .before .before .before .before .before .before .before .args in
+    let s = now (a .trail) in
+    let l = L (c .before .before .before .before .before .before .before .before) in
+    let n = c .before .before .before .before .before .before .before .before .before .n .given .0 .0 in
+    let k = is-byte s (a .used - 1 - n) (a .used - 1 - n + 1) 5 refl (omega arith) (omega arith) (c .before .before .before .before .before .read-number2 .ensures) (c .before .before .before .kind .given .1) in
+    says-kind s (a .used) n (l .0) (c .before .before .before .before .before .before .before .if1 .left) (omega (arith, l)) (c .before .before .before .before .before .before .if2 .left) (omega arith) _ (k .0) (k .1) 3 (omega (arith, l, c .before .before .before .before .before .before .before .if1 .left, c .before .if3 .left)) (c .three-bytes .result) (c .three-bytes .ensures)
 
 pub read-short-spec : {M : Type 1} → statement M
 read-short-spec =
@@ -65,8 +105,15 @@ read-short-spec =
     enum-known-n
     enum-told
     returns
-    two-bytes-requires
+    cast-l
     returns-2
-    three-bytes-requires
     returns-3
-    returns-4)
+    add-read-number
+    read-number-requires-2
+    enum-known-kind
+    enum-told-2
+    returns-4
+    two-bytes-requires
+    returns-5
+    three-bytes-requires
+    returns-6)

@@ -4,7 +4,7 @@ use mathlib.Core.Path.{ap, _∙_}
 use native.Mathlib.Omega.{arith}
 use borrow.Author.Needs.{needs}
 use Rattle.trail.specs.Records.{added}
-use Rattle.trail.proofs.Lengths.{record-fits}
+use Rattle.trail.proofs.Lengths.{record-count}
 use Rattle.trail.proofs.records.add.Statement.{statement}
 use Rattle.trail.proofs.records.add.Tie as tie
 
@@ -14,7 +14,8 @@ fill-requires c κs = search needs
 copy-requires : tie.Need-copy-requires
 copy-requires c κs =
     let f = c .before .before .before .fill .ensures in
-    (omega arith, omega (arith, f .place, record-fits (omega arith) (c .before .before .before .before .before .before .pre .1)), f .size)
+    let s = c .before .before .before .before .before .before in
+    (omega arith, omega (arith, f .place, record-count (s .args .o), s .pre .2), f .size)
 
 same-length : tie.Need-same-length
 same-length c = search needs

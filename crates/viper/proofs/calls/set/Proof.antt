@@ -7,7 +7,9 @@ use denote.Ref.{now}
 use lib.ListN.{length}
 use Rattle.machine.specs.Held.{ram}
 use Rattle.trail.specs.declared.Added.the-variants as added
-use Rattle.trail.proofs.Marks.{old-values-good}
+use Rattle.trail.proofs.Marks.{Sound, old-values-good}
+use Rattle.trail.proofs.Lengths.{same-short}
+use Rattle.trail.specs.declared.Kind.the-variants as kind
 use Rattle.viper.specs.Operations.{set-word}
 use Rattle.step.specs.Phases as phases
 use Rattle.step.proofs.Stores.{changing-addressed, changing-value, finish-full, finish-done}
@@ -81,17 +83,16 @@ add-requires c κs =
     let w = c .before .before .changed-to in
     let hw = w .ensures ∙ written-over stores (s .args .place) (o .result) (s .args .value) (o .ensures) in
     let l = passed (s .args .m .p) (length (now (s .args .main))) (length (now (s .args .ports))) (length (now (s .args .trail))) (s .args .used) (c .before .before .before .before .before .before .before .before .before .before .before .before .judge .result) (c .before .before .before .before .before .before .before .before .before .before .before .before .judge .ensures) (c .before .before .before .before .before .before .before .before .before .before .enum-told .given .1) in
-    let k = c .before .before .before .before .before .before .before .before .before .before .before .before .before in (
-      l .used-le,
-      rw (c .before .old-values .ensures) (old-values-good (s .args .m) (record {
-        p = l .p-lt;
-        a = registers s .0;
-        x = registers s .1;
-        y = registers s .2;
-        address = rw hw (changing-addressed stores (phases.Word (s .args .place) (s .args .value)) (set-fitted (s .args .m) (now (s .args .main)) (now (s .args .ports)) (now (s .args .trail)) (s .args .used) (s .args .place) (s .args .value) (c .before .before .before .before .before .before .before .before .before .before .before .before .judge .result) (c .before .before .before .before .before .before .before .before .before .before .before .before .judge .ensures) (c .before .before .before .before .before .before .before .before .before .before .enum-told .given .1) (c .before .before .before .before .before .before .before .is-fitted .result) (c .before .before .before .before .before .before .before .is-fitted .ensures) (not-false _ (c .before .before .before .before .before .before .if1 .left))));
-        value = rw hw (changing-value (now (s .args .main)) (now (s .args .ports)) (phases.Word (s .args .place) (s .args .value)) (λ i. omega (arith, k .before .before .slice-known .given i)) (λ i. omega (arith, k .before .slice-known2 .given i)));
-      })),
-    )
+    let k = c .before .before .before .before .before .before .before .before .before .before .before .before .before in
+    let z : Sound (s .args .m) (w .result) = record {
+      p = l .p-lt;
+      a = registers s .0;
+      x = registers s .1;
+      y = registers s .2;
+      address = rw hw (changing-addressed stores (phases.Word (s .args .place) (s .args .value)) (set-fitted (s .args .m) (now (s .args .main)) (now (s .args .ports)) (now (s .args .trail)) (s .args .used) (s .args .place) (s .args .value) (c .before .before .before .before .before .before .before .before .before .before .before .before .judge .result) (c .before .before .before .before .before .before .before .before .before .before .before .before .judge .ensures) (c .before .before .before .before .before .before .before .before .before .before .enum-told .given .1) (c .before .before .before .before .before .before .before .is-fitted .result) (c .before .before .before .before .before .before .before .is-fitted .ensures) (not-false _ (c .before .before .before .before .before .before .if1 .left))));
+      value = rw hw (changing-value (now (s .args .main)) (now (s .args .ports)) (phases.Word (s .args .place) (s .args .value)) (λ i. omega (arith, k .before .before .slice-known .given i)) (λ i. omega (arith, k .before .slice-known2 .given i)));
+    } in
+    (l .used-le, rw (c .before .old-values .ensures) (old-values-good kind.Set (s .args .m) z), rw (c .before .old-values .ensures) (same-short kind.Set (s .args .m) z))
 
 enum-known-n : tie.Need-enum-known-n
 enum-known-n c = search needs
@@ -122,7 +123,7 @@ returns-3 c =
     let v = c .before .before .before .before .before .before .before .old-values in
     let n = c .before .before .before .before .before .add in
     set-full (s .args .m) (now (s .args .main)) (now (s .args .ports)) (now (s .args .trail)) (s .args .used) (s .args .place) (s .args .value) (c .before .before .before .before .before .before .before .before .before .before .before .before .before .before .before .before .before .before .judge .result) (c .before .before .before .before .before .before .before .before .before .before .before .before .before .before .before .before .before .before .judge .ensures) (c .before .before .before .before .before .before .before .before .before .before .before .before .before .before .before .before .enum-told .given .1) (c .before .before .before .before .before .before .before .before .before .before .before .before .before .is-fitted .result) (c .before .before .before .before .before .before .before .before .before .before .before .before .before .is-fitted .ensures) (not-false _ (c .before .before .before .before .before .before .before .before .before .before .before .before .if1 .left)) added.Full stores (n .last .0)
-    (finish-full (s .args .m) (record { machine = s .args .m; written = phases.Word (s .args .place) (s .args .value) }) stores (now (s .args .trail)) (s .args .used) (w .result) (v .result) (n .result) (n .last .0) hw (v .ensures) (n .ensures) (c .before .enum-told2 .given .1)) refl)
+    (finish-full kind.Set (s .args .m) (record { machine = s .args .m; written = phases.Word (s .args .place) (s .args .value) }) stores (now (s .args .trail)) (s .args .used) (w .result) (v .result) (n .result) (n .last .0) hw (v .ensures) (n .ensures) (c .before .enum-told2 .given .1)) refl)
 
 put-word-requires : tie.Need-put-word-requires
 put-word-requires c κs =
@@ -150,7 +151,7 @@ returns-4 c =
     let k = c .before .before .before .before .before .before .before .before .n .given in
     let u = c .before .before .before .before .put-word in
     set-done (s .args .m) (now (s .args .main)) (now (s .args .ports)) (now (s .args .trail)) (s .args .used) (s .args .place) (s .args .value) (c .before .before .before .before .before .before .before .before .before .before .before .before .before .before .before .before .before .before .before .before .before .before .before .before .before .judge .result) (c .before .before .before .before .before .before .before .before .before .before .before .before .before .before .before .before .before .before .before .before .before .before .before .before .before .judge .ensures) (c .before .before .before .before .before .before .before .before .before .before .before .before .before .before .before .before .before .before .before .before .before .before .before .enum-told .given .1) (c .before .before .before .before .before .before .before .before .before .before .before .before .before .before .before .before .before .before .before .before .is-fitted .result) (c .before .before .before .before .before .before .before .before .before .before .before .before .before .before .before .before .before .before .before .before .is-fitted .ensures) (not-false _ (c .before .before .before .before .before .before .before .before .before .before .before .before .before .before .before .before .before .before .before .if1 .left)) (added.Used (k .0 .0)) (ram (u .last .0) (u .last .1 .0)) (n .last .0)
-    (finish-done (s .args .m) (record { machine = s .args .m; written = phases.Word (s .args .place) (s .args .value) }) stores (now (s .args .trail)) (s .args .used) (w .result) (v .result) (n .result) (n .last .0) hw (v .ensures) (n .ensures) (k .0 .0) (ram (u .last .0) (u .last .1 .0)) (k .1) (u .ensures)) (k .0 .0) refl
+    (finish-done kind.Set (s .args .m) (record { machine = s .args .m; written = phases.Word (s .args .place) (s .args .value) }) stores (now (s .args .trail)) (s .args .used) (w .result) (v .result) (n .result) (n .last .0) hw (v .ensures) (n .ensures) (k .0 .0) (ram (u .last .0) (u .last .1 .0)) (k .1) (u .ensures)) (k .0 .0) refl
 
 pub set-spec : {M : Type 1} → statement M
 set-spec =
