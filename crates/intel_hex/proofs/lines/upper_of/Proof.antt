@@ -1,0 +1,28 @@
+-- Each way out is a case of the definition.
+-- Assumes nothing.
+use borrow.Author.Needs.{needs}
+use borrow.Author.Tests.{eq-eqb, ne-eqb}
+use Rattle.intel_hex.specs.Lines.{upper-of}
+use Rattle.intel_hex.proofs.lines.upper_of.Statement.{statement}
+use Rattle.intel_hex.proofs.lines.upper_of.Tie as tie
+
+returns : tie.Need-returns
+unfolding upper-of
+returns c =
+    rw (ne-eqb (c .before .args .count) 2 (c .if1 .taken))
+
+returns-2 : tie.Need-returns-2
+unfolding upper-of
+returns-2 c =
+    rw (c .before .if1 .left, ne-eqb (c .before .before .args .address) 0 (c .if2 .taken))
+
+mul-t5 : tie.Need-mul-t5
+mul-t5 c = search needs
+
+returns-3 : tie.Need-returns-3
+unfolding upper-of
+returns-3 c =
+    rw (c .before .if1 .left, c .if2 .left)
+
+pub upper-of-spec : {M : Type 1} → statement M
+upper-of-spec = tie.close (tie.spec returns returns-2 mul-t5 returns-3)
