@@ -4,3 +4,4 @@ pub mod WhoMadeThem
 pub mod SecondDemand
 pub mod ThirdDemand
 pub mod Uniqueness
+pub mod WhichOperation

@@ -34,19 +34,19 @@ use Rattle.demands.proofs.Undoing.{touched, touched-sizes, stays-valid,
 
 -- ---- each listed operation was fitted, where it was done
 
-abbrev Fair : List Operation → State → Type 0
+abbrev pub Fair : List Operation → State → Type 0
 Fair [] s = Unit {0}
 Fair (e ∷ l) s = (unfitted (operate e) (through l s) ≡ false) × Typed e × Fair l s
 
-through-valid : (l : List Operation) (s : State) → Valid s → Fair l s → Valid (through l s)
+pub through-valid : (l : List Operation) (s : State) → Valid s → Fair l s → Valid (through l s)
 through-valid [] s ok f = ok
 through-valid (e ∷ l) s ok f = stays-valid e (through l s) (f .1) (through-valid l s ok (f .2)) (f .0)
 
 -- ---- what every call keeps
 
-record Kept (b₀ b : Bench) (l : List Operation) : Type 0 where
-  history : History b₀ b l
-  fair : Fair l (b₀ .state)
+pub record Kept (b₀ b : Bench) (l : List Operation) : Type 0 where
+  pub history : History b₀ b l
+  pub fair : Fair l (b₀ .state)
 
 kept-start : (b₀ : Bench) → b₀ .used ≡ 0 → Kept b₀ b₀ []
 kept-start b₀ z =
@@ -272,7 +272,7 @@ module _ (b₀ : Bench) (ok : Valid (b₀ .state)) where
       let v = valid-now b l k in
       record { p-lt = v .range .p-lt; main-le = v .main-le; ports-le = v .ports-le; used-le = k .history .within }
 
-  back-answer : (b : Bench) (l : List Operation) → Kept b₀ b l → answer back b ≡ back-by l
+  pub back-answer : (b : Bench) (l : List Operation) → Kept b₀ b l → answer back b ≡ back-by l
   back-answer b [] k =
       refused-lowest back b NothingInUse .1
       (record { itself = eq-eqb (b .used) 0 (none-in-use b k); no-lower = below-seven b (lawful-now b [] k) })
@@ -280,14 +280,14 @@ module _ (b₀ : Bench) (ok : Valid (b₀ .state)) where
       accepted-none back b .1
       (from-seven b (lawful-now b (e ∷ l) k) (ne-eqb (b .used) 0 (some-in-use e b l k)) (ap broken (newest-is e b l k)))
 
-  kept-back : (b : Bench) (l : List Operation) → Kept b₀ b l → Kept b₀ (back-outcome b .bench) (struck (back-outcome b .answered) l)
+  pub kept-back : (b : Bench) (l : List Operation) → Kept b₀ b l → Kept b₀ (back-outcome b .bench) (struck (back-outcome b .answered) l)
   kept-back b [] k = rw (back-answer b [] k) k
   kept-back b (e ∷ l) k = rw (back-answer b (e ∷ l) k) (kept-struck e b l k)
 
   -- ---- a session keeps it
 
   module _ (z : b₀ .used ≡ 0) where
-    kept-session : {b : Bench} {l : List Operation} → Session b₀ b l → Kept b₀ b l
+    pub kept-session : {b : Bench} {l : List Operation} → Session b₀ b l → Kept b₀ b l
     kept-session begins = kept-start b₀ z
     kept-session (operates {b = b} {l = l} e r main ports trail s t p) =
         subst (λ (o : Outcome). Kept b₀ (o .bench) (noted e (o .answered) l)) (sym p) (kept-operation e b l t (kept-session s))

@@ -1,0 +1,5 @@
+pub mod Walking
+pub mod Naming
+pub mod Changing
+pub mod Picking
+pub mod Examples
