@@ -39,7 +39,7 @@ module _ {main out : List ℕ} where
 clash : {A : Type 0} → _≡_ {A = ℕ} 0 1 → A
 clash z = absurd (omega arith)
 
-answered : (main : List ℕ) (room n : ℕ) → answer main room ≡ Bytes n → n ≡ length (listing main)
+pub answered : (main : List ℕ) (room n : ℕ) → answer main room ≡ Bytes n → n ≡ length (listing main)
 unfolding answer
 answered main room n e = go (ltb (2 ^ 20) (length main)) (ltb room (length (listing main))) refl refl
   where

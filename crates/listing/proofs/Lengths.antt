@@ -1,6 +1,6 @@
--- How long the fields of a line are. A line has 14 to 24 bytes, its line feed counted (`line-bounds`).
+-- How long the fields of a line are. A line has 14 to 24 bytes, its line feed counted (`line-bounds`), and a listing of n words at most 24 n.
 -- Assumes nothing.
-use Prim.Native.Nat.{ℕ, _+_, _≤_, _<_}
+use Prim.Native.Nat.{ℕ, suc, _+_, _≤_, _<_}
 use mathlib.Core.Path.{_≡_, refl}
 use mathlib.Core.Bool.{_&&_}
 use mathlib.Core.List.{List, [], _∷_, _++_, append-nil}
@@ -12,12 +12,13 @@ use Rattle.text.specs.Digits.{hex}
 use Rattle.text.proofs.Digits.{hex-length}
 use Rattle.report.specs.Parts as parts
 use Rattle.report.proofs.Finite.{all, below, both-left, both-right}
-use Rattle.listing.specs.declared.line.Form.{Form}
-use Rattle.listing.specs.declared.line.Form.the-variants.{Word, Comparison, Write, Shift, Unary, Binary}
-use Rattle.listing.specs.Names.{split, destination-name, function-name, shift-name, comparison-name, register-name}
-use Rattle.listing.specs.Line.{fields-of, operand, word-fields, fields, fields-by, form, spaced, line}
+use Rattle.language.specs.declared.forms.Form.{Form}
+use Rattle.language.specs.declared.forms.Form.the-variants.{Word, Comparison, Write, Shift, Unary, Binary}
+use Rattle.language.specs.Names.{split, destination-name, function-name, shift-name, comparison-name, register-name}
+use Rattle.language.specs.Line.{fields-of, operand, word-fields, fields, fields-by, form, spaced, line}
+use Rattle.listing.specs.Listing.{lines, listing, most-bytes}
 use Rattle.listing.proofs.Operands.{operand-bounds}
-use Rattle.listing.proofs.Shapes.{Told, told}
+use Rattle.language.proofs.Shapes.{Told, told}
 use Rattle.listing.proofs.Spacing.{spaced-length}
 
 pub word-put : (w : ℕ) → spaced (word-fields w) ≡ text " WORD " ++ hex 8 w
@@ -128,3 +129,12 @@ line-bounds address w =
 
 pub any-address : (address w : ℕ) → length (line address w) ≡ length (line 0 w)
 any-address address w = omega (arith, line-length address w, line-length 0 w)
+
+lines-at-most : (address : ℕ) (words : List ℕ) → length (lines address words) ≤ most-bytes (length words)
+unfolding lines
+lines-at-most address [] = omega arith
+lines-at-most address (w ∷ words) =
+    omega (arith, length-append (line address w) (lines (suc address) words), line-bounds address w .1, lines-at-most (suc address) words)
+
+pub listing-at-most : (main : List ℕ) → length (listing main) ≤ most-bytes (length main)
+listing-at-most main = lines-at-most 0 main

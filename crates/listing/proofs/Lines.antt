@@ -9,7 +9,7 @@ use native.Mathlib.Numerals.{add-one}
 use lib.ListN.{length, getD, take, drop, length-append, take-append-drop}
 use lib.Seq.{take-suc, length-take-le}
 use Rattle.text.specs.Placed.{Placed}
-use Rattle.listing.specs.Line.{line}
+use Rattle.language.specs.Line.{line}
 use Rattle.listing.specs.Listing.{lines, listing}
 
 lines-append : (a : ℕ) (xs ys : List ℕ) → lines a (xs ++ ys) ≡ lines a xs ++ lines (a + length xs) ys

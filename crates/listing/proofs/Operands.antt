@@ -11,7 +11,7 @@ use borrow.Author.Tests.{eq-eqb, ne-eqb, eqb-true, eqb-false}
 use Rattle.text.specs.Text.{text}
 use Rattle.text.specs.Digits.{hex}
 use Rattle.text.proofs.Digits.{hex-length}
-use Rattle.listing.specs.Line.{operand}
+use Rattle.language.specs.Line.{operand}
 
 module _ (m a : ℕ) where
   pub constant-operand : m ≡ 0 → operand m a ≡ text "#" ++ hex 5 a

@@ -8,11 +8,11 @@ use lib.ListN.{length, take, drop, length-append}
 use lib.Seq.{length-take-le}
 use Rattle.text.specs.Placed.{Placed}
 use Rattle.text.proofs.Placing.{put-then, placed-within}
-use Rattle.listing.specs.declared.names.Name.{Name}
-use Rattle.listing.specs.Names.{Named}
+use Rattle.language.specs.declared.names.Name.{Name}
+use Rattle.language.specs.Names.{Named}
 use Rattle.instruction.specs.declared.Fields.{Fields}
-use Rattle.listing.specs.declared.line.Form.{Form}
-use Rattle.listing.specs.Line.{field, fields-by, spaced}
+use Rattle.language.specs.declared.forms.Form.{Form}
+use Rattle.language.specs.Line.{field, fields-by, spaced}
 
 -- ---- texts put
 

@@ -1,3 +1,1 @@
-pub mod Names
-pub mod Line
 pub mod Listing

@@ -1,12 +1,12 @@
 -- The listing of a main store (document 02, W1), and what a call of list answers and leaves.
 -- Assumes nothing.
-use Prim.Native.Nat.{ℕ, suc, _^_}
+use Prim.Native.Nat.{ℕ, suc, _*_, _^_}
 use mathlib.Core.Path.{_≡_}
 use mathlib.Core.Bool.{Bool, cond}
 use mathlib.Core.List.{List, [], _∷_, _++_}
 use lib.Dec.{ltb}
 use lib.ListN.{length, drop}
-use Rattle.listing.specs.Line.{line}
+use Rattle.language.specs.Line.{line}
 use Rattle.listing.specs.declared.store.Listed.{Listed}
 use Rattle.listing.specs.declared.store.Listed.the-variants.{Bytes, StoreTooLong, OutputTooShort}
 
@@ -17,6 +17,10 @@ lines address (w ∷ words) = line address w ++ lines (suc address) words
 
 abbrev pub listing : List ℕ → List ℕ
 listing main = lines 0 main
+
+-- A line has at most 24 bytes: n lines have at most so many (`listing-at-most` in proofs/Lengths.antt).
+abbrev pub most-bytes : ℕ → ℕ
+most-bytes n = 24 * n
 
 -- The paper's number of a refusal; an accepted call has 0.
 abbrev pub number : Listed → ℕ

@@ -1,7 +1,9 @@
 // One line of the listing (document 02, W1): the address of a word and its fields, put at a place of a buffer.
-use crate::names;
-use crate::names::Name;
 use instruction::Fields;
+use language::forms::Form;
+use language::forms::form_of;
+use language::names;
+use language::names::Name;
 use text::put_byte;
 use text::put_hex;
 use text::put_text;
@@ -10,58 +12,7 @@ ghost use mathlib.Core.Path.{_≡_};
 ghost use lib.ListN.{length, take};
 ghost use Rattle.text.specs.Placed.{Placed};
 ghost use Rattle.instruction.specs.Classes.{Classified};
-ghost use Rattle.listing.specs.Line.{ignoring, function-form, form, fields-of, operand, word-fields, comparison-fields, write-fields, shift-fields, unary-fields, binary-fields, fields-by, field, spaced, line};
-
-// Which fields a word has. A unary function is one of M alone, a binary one of R and M.
-pub enum Form {
-    Word,
-    Comparison,
-    Write,
-    Shift,
-    Unary,
-    Binary,
-}
-
-// A form in which some bits are ignored is only for words where these are zero.
-fn ignoring(bits: u32, form: Form) -> Form
-    ensures { λ r. ⌜ r ≡ ignoring bits form ⌝ }
-{
-    if bits == 0 {
-        return form;
-    }
-    Form::Word
-}
-
-// The form of a word of classes 4 to 9, which have a result for a register or P.
-fn function_form(f: Fields) -> Form
-    ensures { λ r. ⌜ r ≡ function-form f ⌝ }
-{
-    if f.fsf == 12 {
-        return ignoring(f.addr, Form::Shift);
-    }
-    if f.fsf < 4 {
-        return ignoring(f.rsf, Form::Unary);
-    }
-    Form::Binary
-}
-
-pub fn form_of(table: &[u8; 1024], w: u32) -> Form
-    requires { ⌜ Classified (now table) ⌝ }
-    ensures { λ r. ⌜ r ≡ form w ⌝ }
-{
-    let f = instruction::take_apart(w);
-    let class = instruction::class_of(table, w);
-    if class == 0 {
-        return ignoring(f.dsf, Form::Comparison);
-    }
-    if class == 1 {
-        return Form::Word;
-    }
-    if class < 4 {
-        return ignoring(f.fsf, Form::Write);
-    }
-    function_form(f)
-}
+ghost use Rattle.language.specs.Line.{fields-of, operand, word-fields, comparison-fields, write-fields, shift-fields, unary-fields, binary-fields, fields-by, field, spaced, line};
 
 // Each function that puts something into the buffer from a place on answers the place after it.
 

@@ -5,7 +5,7 @@ ghost use mathlib.Core.Path.{_≡_};
 ghost use lib.ListN.{length};
 ghost use Rattle.text.specs.Placed.{Placed};
 ghost use Rattle.instruction.specs.Classes.{Classified};
-ghost use Rattle.listing.specs.Line.{line};
+ghost use Rattle.language.specs.Line.{line};
 ghost use Rattle.listing.specs.Listing.{listing, Lists};
 
 // What a call answers: how many bytes the listing has, or why it was refused (2 and 9; `number` in specs/Listing.antt).

@@ -2,6 +2,7 @@
 mod put;
 mod read;
 
+pub use put::digit_of;
 pub use put::put_byte;
 pub use put::put_decimal;
 pub use put::put_hex;

@@ -29,7 +29,7 @@ pub fn put_text(out: &mut [u8], at: usize, text: &[u8]) -> usize
 }
 
 // The digit of a value below 16.
-fn digit_of(value: usize) -> u8
+pub fn digit_of(value: usize) -> u8
     requires { ⌜ value < 16 ⌝ }
     ensures { λ r. ⌜ r ≡ digit value ⌝ }
 {

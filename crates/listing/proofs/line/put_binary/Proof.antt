@@ -4,8 +4,8 @@ use mathlib.Core.List.{[], _∷_}
 use native.Mathlib.Omega.{arith}
 use lib.ListN.{length}
 use borrow.Author.Needs.{needs}
-use Rattle.listing.specs.Names.{destination-name, function-name, register-name}
-use Rattle.listing.specs.Line.{operand}
+use Rattle.language.specs.Names.{destination-name, function-name, register-name}
+use Rattle.language.specs.Line.{operand}
 use Rattle.listing.proofs.Spacing.{field-then, field-last, name-put, Room, room-name, room-field, room-then}
 use Rattle.listing.proofs.line.put_binary.Statement.{statement}
 use Rattle.listing.proofs.line.put_binary.Tie as tie

@@ -5,8 +5,8 @@ use native.Mathlib.Omega.{arith}
 use lib.ListN.{length}
 use borrow.Author.Needs.{needs}
 use Rattle.text.specs.Text.{text}
-use Rattle.listing.specs.Names.{comparison-name, register-name}
-use Rattle.listing.specs.Line.{operand}
+use Rattle.language.specs.Names.{comparison-name, register-name}
+use Rattle.language.specs.Line.{operand}
 use Rattle.listing.proofs.Spacing.{field-then, field-last, name-put, Room, room-name, room-field, room-then}
 use Rattle.listing.proofs.line.put_comparison.Statement.{statement}
 use Rattle.listing.proofs.line.put_comparison.Tie as tie

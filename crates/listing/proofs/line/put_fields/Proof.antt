@@ -2,8 +2,8 @@
 -- Assumes nothing.
 use lib.ListN.{length}
 use borrow.Author.Needs.{needs}
-use Rattle.listing.specs.Line.{fields-by}
-use Rattle.listing.proofs.Forms.{fielded}
+use Rattle.language.specs.Line.{fields-by}
+use Rattle.language.proofs.ByClass.{fielded}
 use Rattle.listing.proofs.Spacing.{told-room, told-put}
 use Rattle.listing.proofs.line.put_fields.Statement.{statement}
 use Rattle.listing.proofs.line.put_fields.Tie as tie

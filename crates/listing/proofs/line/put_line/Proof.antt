@@ -6,7 +6,7 @@ use lib.ListN.{length}
 use borrow.Author.Needs.{needs}
 use Rattle.text.proofs.Digits.{hex-length}
 use Rattle.text.proofs.Placing.{put-then}
-use Rattle.listing.specs.Line.{fields, spaced, line}
+use Rattle.language.specs.Line.{fields, spaced, line}
 use Rattle.listing.proofs.Lengths.{line-length}
 use Rattle.listing.proofs.line.put_line.Statement.{statement}
 use Rattle.listing.proofs.line.put_line.Tie as tie

@@ -8,7 +8,7 @@ use lib.ListN.{length}
 use borrow.Author.Needs.{needs}
 use Rattle.text.proofs.Digits.{hex-length}
 use Rattle.text.proofs.Placing.{put-then}
-use Rattle.listing.specs.Line.{field}
+use Rattle.language.specs.Line.{field}
 use Rattle.listing.proofs.Operands.{constant-operand, direct-operand, by-x-operand, by-y-operand, operand-least, constant-length, by-x-length, by-y-length}
 use Rattle.listing.proofs.line.put_operand.Statement.{statement}
 use Rattle.listing.proofs.line.put_operand.Tie as tie

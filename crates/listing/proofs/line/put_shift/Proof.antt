@@ -4,7 +4,7 @@ use mathlib.Core.List.{[], _∷_}
 use native.Mathlib.Omega.{arith}
 use lib.ListN.{length}
 use borrow.Author.Needs.{needs}
-use Rattle.listing.specs.Names.{destination-name, shift-name, register-name}
+use Rattle.language.specs.Names.{destination-name, shift-name, register-name}
 use Rattle.listing.proofs.Spacing.{field-then, field-last, name-put, Room, room-name, room-then}
 use Rattle.listing.proofs.line.put_shift.Statement.{statement}
 use Rattle.listing.proofs.line.put_shift.Tie as tie

@@ -6,7 +6,7 @@ use native.Mathlib.Omega.{arith}
 use lib.ListN.{length, getD, take, length-append}
 use lib.Seq.{take-all}
 use borrow.Author.Needs.{needs}
-use Rattle.listing.specs.Line.{line}
+use Rattle.language.specs.Line.{line}
 use Rattle.listing.specs.Listing.{lines, listing}
 use Rattle.listing.proofs.Lengths.{line-bounds, any-address}
 use Rattle.listing.proofs.Lines.{next-line}

@@ -8,7 +8,7 @@ use lib.Seq.{take-all}
 use borrow.Author.Needs.{needs}
 use Rattle.text.specs.Placed.{Placed}
 use Rattle.text.proofs.Placing.{put-nothing, put-then}
-use Rattle.listing.specs.Line.{line}
+use Rattle.language.specs.Line.{line}
 use Rattle.listing.specs.Listing.{lines, listing}
 use Rattle.listing.proofs.Lines.{next-line, first-lines, whole}
 use Rattle.listing.proofs.store.put_listing.Statement.{statement}
