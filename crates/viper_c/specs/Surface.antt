@@ -5,9 +5,8 @@ use mathlib.Core.Bool.{Bool, true, false, not, cond}
 use mathlib.Core.List.{List, [], _∷_}
 use lib.Dec.{eqb}
 use lib.ListN.{getD}
-use Rattle.machine.specs.Held.{machine-of, place-by}
+use Rattle.machine.specs.Held.{machine-of}
 use Rattle.machine.specs.declared.Machine.{Machine}
-use Rattle.machine.specs.declared.Place.{Place}
 use Rattle.machine.specs.declared.Ending.{Ending}
 use Rattle.machine.specs.declared.Ending.the-variants as ending
 use Rattle.viper.specs.Refusals.{number}
@@ -41,10 +40,6 @@ machine-of-regs regs =
 
 abbrev pub regs-of-machine : Machine → List ℕ
 regs-of-machine m = m .a ∷ m .x ∷ m .y ∷ m .p ∷ one-or-zero (m .b) ∷ one-or-zero (m .stop) ∷ []
-
--- Store 0 is main, any other the ports.
-abbrev pub place-numbered : ℕ → ℕ → Place
-place-numbered store address = place-by (is-set store) address
 
 -- ---- the numbers answered
 

@@ -4,13 +4,15 @@
 mod answers;
 mod registers;
 mod restoring;
+pub mod texts;
+pub mod trails;
 
 use answers::hand_back;
 use answers::hand_run_back;
 use answers::number_of;
 use registers::machine_of;
-use registers::place_of;
 use restoring::put_back;
+use surface::trails::place_of;
 use viper::Found;
 ghost use mathlib.Core.Path.{_≡_};
 ghost use mathlib.Core.List.{List};
@@ -20,7 +22,8 @@ ghost use Rattle.viper.specs.Operations.{step as step·op, reset as reset·op, 
 ghost use Rattle.viper.specs.Runs.{run-outcome};
 ghost use Rattle.viper.specs.TakingBack.{back-outcome};
 ghost use Rattle.viper.specs.Views.{view-fitted};
-ghost use Rattle.viper_c.specs.Surface.{lending, seen, called, run-called, one-or-zero, place-numbered};
+ghost use Rattle.surface.specs.Trails.{place-numbered};
+ghost use Rattle.viper_c.specs.Surface.{lending, seen, called, run-called, one-or-zero};
 
 // One instruction.
 #[no_mangle]

@@ -1,10 +1,7 @@
-// The machine in C's hands (include/viper.h): regs holds A, X, Y, P, B and STOP, one word each; a store's number and an address name a place.
+// The machine in C's hands (include/viper.h): regs holds A, X, Y, P, B and STOP, one word each.
 use machine::Machine;
-use machine::MainAddress;
-use machine::Place;
-use machine::PortNumber;
 ghost use mathlib.Core.Path.{_≡_};
-ghost use Rattle.viper_c.specs.Surface.{machine-of-regs, regs-of-machine, one-or-zero, place-numbered};
+ghost use Rattle.viper_c.specs.Surface.{machine-of-regs, regs-of-machine, one-or-zero};
 
 // The machine that regs gives. B and STOP count as set if they are not 0.
 pub(crate) fn machine_of(regs: &[u32; 6]) -> Machine
@@ -34,14 +31,4 @@ pub(crate) fn one_or_zero(set: bool) -> u32
     ensures { λ r. ⌜ r ≡ one-or-zero set ⌝ }
 {
     if set { 1 } else { 0 }
-}
-
-// Store 0 is main, any other the ports.
-pub(crate) fn place_of(store: u32, address: u32) -> Place
-    ensures { λ r. ⌜ r ≡ place-numbered store address ⌝ }
-{
-    if store == 0 {
-        return Place::Main(MainAddress(address));
-    }
-    Place::Port(PortNumber(address))
 }

@@ -4,7 +4,7 @@ use denote.Ref.{now}
 use Rattle.machine.specs.declared.Place.{Place}
 use Rattle.viper.specs.Operations.{set-word, outcome}
 use Rattle.viper.specs.Told.{bench}
-use Rattle.viper_c.specs.Surface.{place-numbered}
+use Rattle.surface.specs.Trails.{place-numbered}
 use Rattle.viper_c.proofs.Handing.{call-seen}
 use borrow.Author.Needs.{needs}
 use Rattle.viper_c.proofs.viper_set.Statement.{statement}

@@ -1,7 +1,7 @@
 -- The store's number says which store.
 use borrow.Author.Tests.{eq-eqb, ne-eqb}
-use Rattle.viper_c.proofs.registers.place_of.Statement.{statement}
-use Rattle.viper_c.proofs.registers.place_of.Tie as tie
+use Rattle.surface.proofs.trails.place_of.Statement.{statement}
+use Rattle.surface.proofs.trails.place_of.Tie as tie
 
 returns : tie.Need-returns
 returns c = rw (eq-eqb (c .before .args .store) 0 (c .if1 .taken))

@@ -1,0 +1,2 @@
+pub mod TextsSeen
+pub mod TrailsSeen
