@@ -1,7 +1,8 @@
 pub mod FirstDemand
 pub mod Undoing
-pub mod WhoMadeThem
 pub mod SecondDemand
 pub mod ThirdDemand
-pub mod Uniqueness
+pub mod WhoMadeThem
 pub mod WhichOperation
+pub mod Uniqueness
+pub mod ViewCases

@@ -29,14 +29,10 @@ use Rattle.viper.specs.declared.Answer.{Answer}
 use Rattle.demands.specs.Histories.{Valid, Session, through, struck, after}
 use Rattle.demands.specs.Hits.{made-by, changes, NoneChanges, Hit}
 use Rattle.demands.proofs.Undoing.{touched, touched-sizes, undoes}
-use Rattle.demands.proofs.WhoMadeThem.{made, trace-row}
+use Rattle.demands.proofs.WhoMadeThem.{made, FitRow, made-good, made-fit, trace-row}
 use Rattle.demands.proofs.ThirdDemand.{Fair, through-valid, Kept, kept-session, kept-back, back-answer}
 
 -- ---- a sound trail: its bytes in use are records in a row, and the places of all of them are fitted
-
-abbrev pub FitRow : ℕ → ℕ → List OldValues → Type 0
-FitRow main ports [] = Unit {0}
-FitRow main ports (e ∷ es) = Fits main ports e × FitRow main ports es
 
 module _ (main ports : ℕ) (trail : List ℕ) (q : Place) where
   decoded : (es : List OldValues) (deep used : ℕ) → records-of true trail used ≡ some es → FitRow main ports es → from-end main ports trail q deep used ≡ pick q deep es
@@ -75,27 +71,6 @@ module _ (main ports : ℕ) (trail : List ℕ) (q : Place) where
   -- The same of records in a row.
   pub sound-row : (used : ℕ) (es : List OldValues) → used ≤ length trail → take used trail ≡ row true es → GoodRow true es → FitRow main ports es → sought main ports trail used q ≡ pick q 1 es
   sound-row used es h p g f = sound-decoded used es h (division.row-reads true trail es used h p g) f
-
--- ---- the records of the operations still listed are such a row
-
-made-good : (l : List Operation) (s : State) → Valid s → Fair l s → GoodRow true (made l s)
-made-good [] s ok f = tt
-made-good (e ∷ l) s ok f = (undoes e (through l s) (through-valid l s ok (f .2)) (f .0) .good, made-good l s ok (f .2))
-
-through-sizes : (l : List Operation) (s : State) → Valid s → Fair l s → (length (through l s .0 .main) ≡ length (s .0 .main)) × (length (through l s .0 .ports) ≡ length (s .0 .ports))
-through-sizes [] s ok f = (refl, refl)
-through-sizes (e ∷ l) s ok f =
-    let z = touched-sizes (touched e (through l s) (through-valid l s ok (f .2)) (f .0)) in
-    let r = through-sizes l s ok (f .2) in
-    (z .0 ∙ r .0, z .1 ∙ r .1)
-
-made-fit : (l : List Operation) (s : State) → Valid s → Fair l s → FitRow (length (s .0 .main)) (length (s .0 .ports)) (made l s)
-made-fit [] s ok f = tt
-made-fit (e ∷ l) s ok f =
-    let u = undoes e (through l s) (through-valid l s ok (f .2)) (f .0) .fitting in
-    let z = through-sizes (e ∷ l) s ok f in
-    let o = made-by e l s in
-    (subst (λ (n : ℕ). Fits (length (s .0 .main)) n o) (z .1) (subst (λ (n : ℕ). Fits n (length (through (e ∷ l) s .0 .ports)) o) (z .0) u), made-fit l s ok (f .2))
 
 -- ---- a record holds the place exactly if its operation changed the word
 
