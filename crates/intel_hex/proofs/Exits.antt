@@ -1,18 +1,18 @@
 -- What each way out of a call comes to.
 -- Assumes nothing.
-use Prim.Native.Nat.{ℕ, _+_, _<_, _≤_}
-use mathlib.Core.Path.{_≡_, refl, ap, sym, _∙_}
-use mathlib.Core.List.{List, [], _∷_, _++_}
+use Prim.Native.Nat.{ℕ, _<_, _≤_}
+use mathlib.Core.Path.{_≡_}
+use mathlib.Core.List.{List}
 use native.Mathlib.Omega.{arith}
-use lib.ListN.{length, drop}
+use lib.ListN.{length}
 use borrow.Author.Tests.{lt-ltb, le-ltb}
-use Rattle.intel_hex.specs.Exported.{exported, exported-length, export-answer, out-after, Exports}
+use Rattle.intel_hex.specs.Exported.{exported, exported-length, export-answer, Exports}
 use Rattle.intel_hex.specs.declared.exporting.Exported.the-variants.{Written, OutTooShort, MainTooLong as ExportTooLong}
 use Rattle.intel_hex.specs.Imported.{text-of, words-in, stored, verdict, import-answer, Imports}
 use Rattle.intel_hex.specs.declared.importing.Verdict.{Verdict}
 use Rattle.intel_hex.specs.declared.importing.Verdict.the-variants.{Good, BadLine}
 use Rattle.intel_hex.specs.declared.importing.Imported.the-variants.{Accepted, MainTooLong, BadText}
-use Rattle.intel_hex.specs.Placed.{Placed}
+use Rattle.text.specs.Placed.{Placed}
 use Rattle.intel_hex.proofs.Lengths.{exported-length-is}
 
 pub export-too-long : (main out : List ℕ) → 1048576 < length main → Exports main out ExportTooLong out

@@ -1,15 +1,14 @@
 -- The fields of the line that starts at a place of the text are the text's bytes at their places; each way out of a reader decides as the definition does.
 -- Assumes nothing.
-use Prim.Native.Nat.{ℕ, zero, suc, _+_, _*_, _-_, _%_, _≤_, _<_}
-use mathlib.Core.Path.{_≡_, refl, ap, sym, _∙_}
-use mathlib.Core.Bool.{Bool, true, false, cond, _&&_}
-use mathlib.Core.List.{List, [], _∷_, _++_}
-use native.Mathlib.Omega.{arith}
+use Prim.Native.Nat.{ℕ, _+_, _*_, _-_, _≤_}
+use mathlib.Core.Path.{_≡_}
+use mathlib.Core.Bool.{true, false}
+use mathlib.Core.List.{List}
 use native.Mathlib.Nat.{add-zero}
-use lib.Dec.{ltb, eqb}
+use lib.Dec.{ltb}
 use lib.ListN.{length, getD, drop, drop-of-length-le}
 use lib.Seq.{getD-drop, drop-drop}
-use borrow.Author.Tests.{lt-ltb, le-ltb, eq-eqb, ne-eqb}
+use borrow.Author.Tests.{ne-eqb}
 use Rattle.intel_hex.specs.Digits.{byte}
 use Rattle.intel_hex.specs.Lines.{bytes, summed, ending, size-of, well-formed, data-line, end-of, upper-of, by-type, layout-of, line-of}
 use Rattle.intel_hex.specs.declared.lines.Line.the-variants.{IllFormed}
@@ -27,32 +26,32 @@ module _ (text : List ℕ) (at : ℕ) where
   unfolding layout-of
   layout-there = rw (drop-drop 7 at text, drop-drop 1 at text, drop-drop 3 at text, drop-drop 5 at text, drop-drop 9 at text, drop-drop 11 at text)
 
-  pub type-other : {kind : ℕ}
-      → kind ≡ byte (drop (at + 7) text)
-      → (kind ≡ 0 → ⊥)
-      → (kind ≡ 1 → ⊥)
-      → (kind ≡ 4 → ⊥)
+  pub type-other : {type : ℕ}
+      → type ≡ byte (drop (at + 7) text)
+      → (type ≡ 0 → ⊥)
+      → (type ≡ 1 → ⊥)
+      → (type ≡ 4 → ⊥)
       → IllFormed ≡ layout-of (drop at text)
   unfolding by-type
-  type-other {kind} k g h i = rw (layout-there, ← k, ne-eqb kind 0 g, ne-eqb kind 1 h, ne-eqb kind 4 i)
+  type-other {type} k g h i = rw (layout-there, ← k, ne-eqb type 0 g, ne-eqb type 1 h, ne-eqb type 4 i)
 
-  module _ {count high low kind : ℕ}
+  module _ {count high low type : ℕ}
       (c : count ≡ byte (drop (at + 1) text))
       (h : high ≡ byte (drop (at + 3) text))
       (l : low ≡ byte (drop (at + 5) text))
-      (k : kind ≡ byte (drop (at + 7) text)) where
-    pub type-data : kind ≡ 0 → data-line count (256 * high + low) ≡ layout-of (drop at text)
+      (k : type ≡ byte (drop (at + 7) text)) where
+    pub type-data : type ≡ 0 → data-line count (256 * high + low) ≡ layout-of (drop at text)
     unfolding by-type
     type-data e = rw (layout-there, ← k, e, ← c, ← h, ← l)
 
-    pub type-end : kind ≡ 1 → end-of count (256 * high + low) ≡ layout-of (drop at text)
+    pub type-end : type ≡ 1 → end-of count (256 * high + low) ≡ layout-of (drop at text)
     unfolding by-type
     type-end e = rw (layout-there, ← k, e, ← c, ← h, ← l)
 
     pub type-upper : {uh ul : ℕ}
         → uh ≡ byte (drop (at + 9) text)
         → ul ≡ byte (drop (at + 11) text)
-        → kind ≡ 4
+        → type ≡ 4
         → upper-of count (256 * high + low) (256 * uh + ul) ≡ layout-of (drop at text)
     unfolding by-type
     type-upper m n e = rw (layout-there, ← k, e, ← c, ← h, ← l, ← m, ← n)

@@ -1,19 +1,20 @@
 -- A text is bad at exactly one line: the lines before it are good, and that one is at fault or stands after the end record.
 -- Assumes nothing.
-use Prim.Native.Nat.{ℕ, zero, suc, _+_, _≤_, _<_}
-use mathlib.Core.Path.{_≡_, refl, ap, sym, _∙_}
+use Prim.Native.Nat.{ℕ, zero, suc, _<_}
+use mathlib.Core.Path.{_≡_, refl, sym, _∙_}
 use mathlib.Core.Bool.{Bool, true, false, cond}
-use mathlib.Core.List.{List, [], _∷_, _++_}
+use mathlib.Core.List.{List, []}
 use native.Mathlib.Omega.{arith}
 use lib.Dec.{eqb}
 use lib.ListN.{length, drop, length-drop}
-use borrow.Author.Tests.{eqb-true, eqb-false}
+use borrow.Author.Tests.{eqb-false}
 use Rattle.intel_hex.specs.Lines.{size-of, line-of}
-use Rattle.intel_hex.specs.Imported.{named, turn-of, Text, good, bad, after-line, text-in, text-of}
+use Rattle.intel_hex.specs.Imported.{named, turn-of, Text, good, bad, after-line, text-of, verdict}
 use Rattle.intel_hex.specs.declared.importing.Turn.{Turn}
 use Rattle.intel_hex.specs.declared.importing.Turn.the-variants.{On, Ended, Bad}
+use Rattle.intel_hex.specs.declared.importing.Verdict.the-variants.{Good}
 use Rattle.intel_hex.proofs.Bytes.{clash}
-use Rattle.intel_hex.proofs.Texts.{on-within, size-some, text-bad, ended-more, text-ended, text-on}
+use Rattle.intel_hex.proofs.Texts.{on-within, size-some, text-bad, ended-more, text-ended, text-on, not-good}
 
 -- Line n of a text, from 1, is the first bad one, where the 64 KiB at `base` count first.
 pub data BadAt (room : ℕ) : ℕ → List ℕ → ℕ → Type 0 where
@@ -65,3 +66,15 @@ found (suc k) room base t n h e = go (turn-of room base (line-of t)) refl (λ b 
 -- A refused text has its first bad line there: the answer is right.
 pub bad-is-bad-at : (room base : ℕ) (t : List ℕ) (n : ℕ) → text-of room base t ≡ bad n → BadAt room base t n
 bad-is-bad-at room base t n e = found (suc (length t)) room base t n (omega arith) e
+
+-- A good text has no bad line.
+pub good-has-none : {room base n : ℕ} {t : List ℕ} → verdict (text-of room base t) ≡ Good → BadAt room base t n → ⊥
+good-has-none v b = not-good (bad-at-is-bad b) v
+
+-- A text that is not good has a first bad line.
+pub not-good-has-one : (room base : ℕ) (t : List ℕ) → (verdict (text-of room base t) ≡ Good → ⊥) → (n : ℕ) × BadAt room base t n
+not-good-has-one room base t g = go (text-of room base t) refl
+  where
+    go : (x : Text) → text-of room base t ≡ x → (n : ℕ) × BadAt room base t n
+    go (good words) e = absurd (g (rw e))
+    go (bad n) e = (n, bad-is-bad-at room base t n e)

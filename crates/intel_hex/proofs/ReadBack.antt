@@ -1,38 +1,24 @@
--- Reading undoes writing: a record that was written is read as its type, count, address and data, and the next line starts after it.
+-- Reading undoes writing: a record that was written is read as its type, count, address and data, and the next line starts after it,
+-- whether or not a carriage return was put before its line feed.
 -- Assumes nothing.
-use Prim.Native.Nat.{ℕ, zero, suc, _+_, _*_, _-_, _/_, _%_, _≤_, _<_}
-use mathlib.Core.Path.{_≡_, refl, ap, sym, _∙_}
-use mathlib.Core.Bool.{Bool, true, false, cond, _&&_}
+use Prim.Native.Nat.{ℕ, suc, _+_, _*_, _-_, _/_, _%_, _<_}
+use mathlib.Core.Path.{_≡_, refl, ap, _∙_}
+use mathlib.Core.Bool.{Bool, true, false}
 use mathlib.Core.List.{List, [], _∷_, _++_, append-assoc}
 use native.Mathlib.Omega.{arith}
-use lib.Dec.{ltb, leb, eqb}
-use lib.ListN.{length, getD, drop, length-append}
+use lib.Dec.{ltb}
+use lib.ListN.{length, drop, length-append}
 use lib.Seq.{drop-at, drop-drop}
-use borrow.Author.Tests.{ltb-true, ltb-false, lt-ltb, le-leb, lt-leb}
-use Rattle.intel_hex.specs.Digits.{digit, digit-value, digits-of, byte-of, byte}
-use Rattle.intel_hex.specs.Layout.{pairs, sum, sum-byte, head-bytes, record-line, word-bytes, data-bytes}
-use Rattle.intel_hex.specs.Lines.{bytes, all-bytes, summed, count-of, address-of, type-of, signs-of, ending-of, ending, size-of, well-formed, by-type, layout-of, line-of}
-use Rattle.intel_hex.specs.Imported.{word-of, words-from}
+use borrow.Author.Tests.{ltb-true, lt-ltb}
+use Rattle.text.proofs.ReadBack.{digit-again}
+use Rattle.intel_hex.specs.Digits.{digits-of, byte}
+use Rattle.intel_hex.specs.Layout.{pairs, sum, sum-byte, head-bytes, record-line, word-bytes}
+use Rattle.intel_hex.specs.Lines.{bytes, all-bytes, summed, count-of, address-of, type-of, size-of, well-formed, by-type, layout-of, line-of}
+use Rattle.intel_hex.specs.Imported.{word-of}
+use Rattle.intel_hex.specs.Returns.{first-choice, other-choices, with-returns}
 use Rattle.intel_hex.proofs.Bytes.{and-true, both, summed-is}
 use Rattle.intel_hex.proofs.Lengths.{pairs-append, pairs-length, sum-append}
-
-digit-again : (d : ℕ) → d < 16 → digit-value (digit d) ≡ d
-unfolding digit-value digit
-digit-again d h = go (ltb d 10) refl
-  where
-    go : (t : Bool) → ltb d 10 ≡ t → digit-value (digit d) ≡ d
-    go true e =
-        let l = ltb-true d 10 e in
-        rw (e, le-leb 48 (48 + d) (omega arith), le-leb (48 + d) 57 (omega arith)) (omega arith)
-    go false e =
-        let l = ltb-false d 10 e in
-        rw (
-          e,
-          le-leb 48 (65 + (d - 10)) (omega arith),
-          lt-leb (65 + (d - 10)) 57 (omega arith),
-          le-leb 65 (65 + (d - 10)) (omega arith),
-          le-leb (65 + (d - 10)) 70 (omega arith),
-        ) (omega arith)
+use Rattle.intel_hex.proofs.Returns.{feed, feed-size, feed-ends, feed-some, after-feed, feed-chosen, others-stay, pairs-stay}
 
 pub byte-again : (x : ℕ) (more : List ℕ) → x < 256 → byte (digits-of x ++ more) ≡ x
 unfolding byte
@@ -72,10 +58,10 @@ abbrev pub all-of : ℕ → ℕ → List ℕ → List ℕ
 all-of type address bs = length bs ∷ address / 256 ∷ address % 256 ∷ type ∷ (bs ++ (sum-of type address bs ∷ []))
 
 -- A record and what follows it, as the signs that a reader meets.
-abbrev pub signs : ℕ → ℕ → List ℕ → List ℕ → List ℕ
-signs type address bs rest = 58 ∷ (pairs (all-of type address bs) ++ (10 ∷ rest))
+abbrev pub signs : ℕ → ℕ → List ℕ → Bool → List ℕ → List ℕ
+signs type address bs return rest = 58 ∷ (pairs (all-of type address bs) ++ feed return rest)
 
-pub signs-are : (type address : ℕ) (bs rest : List ℕ) → record-line type address bs ++ rest ≡ signs type address bs rest
+signs-are : (type address : ℕ) (bs rest : List ℕ) → record-line type address bs ++ rest ≡ signs type address bs false rest
 unfolding record-line
 signs-are type address bs rest =
     rw (
@@ -84,7 +70,16 @@ signs-are type address bs rest =
       append-assoc (pairs bs) (digits-of (sum-of type address bs) ++ (10 ∷ [])) rest,
     )
 
-module _ (type address : ℕ) (bs rest : List ℕ) (k : type < 256) (a : address < 65536) (c : length bs < 256) (d : all-bytes bs ≡ true) where
+-- A line that was written, and what follows it, with carriage returns put before line feeds.
+pub signs-with-returns : (choices : List Bool) (type address : ℕ) (bs rest : List ℕ)
+    → with-returns choices (record-line type address bs ++ rest) ≡ signs type address bs (first-choice choices) (with-returns (other-choices choices) rest)
+signs-with-returns choices type address bs rest =
+    let all = all-of type address bs in
+    ap (λ (t : List ℕ). with-returns choices t) (signs-are type address bs rest)
+    ∙ others-stay choices 58 (pairs all ++ (10 ∷ rest)) (λ q. omega arith)
+    ∙ ap (λ (t : List ℕ). 58 ∷ t) (pairs-stay choices all (10 ∷ rest) ∙ ap (λ (t : List ℕ). pairs all ++ t) (feed-chosen choices rest))
+
+module _ (type address : ℕ) (bs : List ℕ) (return : Bool) (rest : List ℕ) (k : type < 256) (a : address < 65536) (c : length bs < 256) (d : all-bytes bs ≡ true) where
   all-good : all-bytes (all-of type address bs) ≡ true
   all-good =
       let s = sum-of type address bs in
@@ -99,25 +94,25 @@ module _ (type address : ℕ) (bs rest : List ℕ) (k : type < 256) (a : address
   all-length : length (all-of type address bs) ≡ length bs + 5
   all-length = omega (arith, length-append bs (sum-of type address bs ∷ []))
 
-  count-again : count-of (signs type address bs rest) ≡ length bs
+  count-again : count-of (signs type address bs return rest) ≡ length bs
   count-again = byte-again (length bs) _ c
 
-  address-again : address-of (signs type address bs rest) ≡ address
+  address-again : address-of (signs type address bs return rest) ≡ address
   address-again =
       let v : 256 * (address / 256) + address % 256 ≡ address = omega arith in
       rw (
-        byte-again (address / 256) (digits-of (address % 256) ++ (digits-of type ++ (pairs (bs ++ (sum-of type address bs ∷ [])) ++ (10 ∷ rest)))) (omega arith),
-        byte-again (address % 256) (digits-of type ++ (pairs (bs ++ (sum-of type address bs ∷ [])) ++ (10 ∷ rest))) (omega arith),
+        byte-again (address / 256) (digits-of (address % 256) ++ (digits-of type ++ (pairs (bs ++ (sum-of type address bs ∷ [])) ++ feed return rest))) (omega arith),
+        byte-again (address % 256) (digits-of type ++ (pairs (bs ++ (sum-of type address bs ∷ [])) ++ feed return rest)) (omega arith),
       ) v
 
-  type-again : type-of (signs type address bs rest) ≡ type
+  type-again : type-of (signs type address bs return rest) ≡ type
   type-again = byte-again type _ k
 
-  summed-again : summed (bytes (length bs + 5) (drop 1 (signs type address bs rest))) ≡ 0
+  summed-again : summed (bytes (length bs + 5) (drop 1 (signs type address bs return rest))) ≡ 0
   summed-again =
       let all = all-of type address bs in
       let total = sum (head-bytes (length bs) address type) + sum bs in
-      rw (← all-length, bytes-again all (10 ∷ rest) all-good)
+      rw (← all-length, bytes-again all (feed return rest) all-good)
       (summed-is all all-good
       ∙ closes (sum-append bs (sum-of type address bs ∷ [])))
     where
@@ -126,31 +121,26 @@ module _ (type address : ℕ) (bs rest : List ℕ) (k : type < 256) (a : address
           let t = sum (head-bytes (length bs) address type) + sum bs in
           omega (arith, e, sum-byte-closes t)
 
-  after-signs : drop (11 + 2 * length bs) (signs type address bs rest) ≡ 10 ∷ rest
+  after-signs : drop (11 + 2 * length bs) (signs type address bs return rest) ≡ feed return rest
   after-signs =
       let all = all-of type address bs in
       let n : 11 + 2 * length bs ≡ suc (2 * length all) = omega (arith, all-length) in
-      rw n (drop-at (pairs all) (10 ∷ rest) (2 * length all) (pairs-length all))
+      rw n (drop-at (pairs all) (feed return rest) (2 * length all) (pairs-length all))
 
-  shape-again : well-formed (signs type address bs rest) ≡ true
-  unfolding well-formed ending ending-of
-  shape-again = rw (count-again, summed-again, after-signs)
+  shape-again : well-formed (signs type address bs return rest) ≡ true
+  unfolding well-formed
+  shape-again = rw (count-again, summed-again, after-signs, feed-ends return rest, feed-some return)
 
-  pub size-again : size-of (signs type address bs rest) ≡ 12 + 2 * length bs
-  unfolding size-of ending ending-of
-  size-again = rw (count-again, after-signs) (omega arith)
+  pub size-again : size-of (signs type address bs return rest) ≡ 11 + 2 * length bs + feed-size return
+  unfolding size-of
+  size-again = rw (count-again, after-signs, feed-ends return rest)
 
-  pub rest-again : drop (size-of (signs type address bs rest)) (signs type address bs rest) ≡ rest
+  pub rest-again : drop (size-of (signs type address bs return rest)) (signs type address bs return rest) ≡ rest
   rest-again =
-      let all = all-of type address bs in
-      let n : 12 + 2 * length bs ≡ suc (2 * length all + 1) = omega (arith, all-length) in
-      rw (size-again, n) (further (2 * length all) (pairs all) (pairs-length all))
-    where
-      further : (m : ℕ) (p : List ℕ) → length p ≡ m → drop (m + 1) (p ++ (10 ∷ rest)) ≡ rest
-      further m p e = rw (← drop-drop 1 m (p ++ (10 ∷ rest)), drop-at p (10 ∷ rest) m e)
+      rw (size-again, ← drop-drop (feed-size return) (11 + 2 * length bs) (signs type address bs return rest), after-signs) (after-feed return rest)
 
-  pub line-again : line-of (signs type address bs rest)
-      ≡ by-type type (length bs) address (256 * byte (drop 9 (signs type address bs rest)) + byte (drop 11 (signs type address bs rest)))
+  pub line-again : line-of (signs type address bs return rest)
+      ≡ by-type type (length bs) address (256 * byte (drop 9 (signs type address bs return rest)) + byte (drop 11 (signs type address bs return rest)))
   unfolding line-of layout-of
   line-again = rw (shape-again, type-again, count-again, address-again)
 

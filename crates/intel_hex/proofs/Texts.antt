@@ -2,18 +2,16 @@
 -- Assumes nothing.
 use Prim.Native.Nat.{ℕ, zero, suc, _+_, _*_, _-_, _/_, _%_, _≤_, _<_}
 use mathlib.Core.Path.{_≡_, refl, ap, sym, _∙_}
-use mathlib.Core.Bool.{Bool, true, false, cond, _&&_, _||_}
+use mathlib.Core.Bool.{Bool, true, false, cond, _&&_}
 use mathlib.Core.List.{List, [], _∷_, _++_}
 use native.Mathlib.Omega.{arith}
-use native.Mathlib.Nat.{add-zero}
 use lib.Dec.{leb, ltb, eqb}
 use lib.ListN.{length, getD, drop, set, length-drop}
 use lib.Seq.{drop-drop}
-use mathlib.Core.List.{append-assoc}
-use borrow.Author.Tests.{lt-ltb, le-ltb, eq-eqb, ne-eqb, le-leb, lt-leb, ltb-true, leb-true, leb-false, eqb-true, eqb-false}
+use borrow.Author.Tests.{eq-eqb, ne-eqb, le-leb, lt-leb, ltb-true, leb-true, leb-false, eqb-true}
 use Rattle.intel_hex.specs.Digits.{byte}
 use Rattle.intel_hex.specs.Lines.{bytes, all-bytes, summed, count-of, address-of, type-of, signs-of, ending, size-of, well-formed, data-line, end-of, upper-of, by-type, layout-of, line-of}
-use Rattle.intel_hex.specs.Imported.{word-of, words-from, named, has-words, turn-of, base-after, Text, good, bad, after-line, then-lines, text-in, text-of, stored, words-in, verdict}
+use Rattle.intel_hex.specs.Imported.{word-of, words-from, named, has-words, turn-of, Text, good, bad, after-line, text-in, text-of, stored, words-in, verdict}
 use Rattle.intel_hex.specs.declared.lines.Span.{Span}
 use Rattle.intel_hex.specs.declared.lines.Line.{Line}
 use Rattle.intel_hex.specs.declared.lines.Line.the-variants.{Data, Upper, End, IllFormed}

@@ -1,22 +1,11 @@
 -- Hex digits, capitals only, and the byte that two of them stand for.
 -- Assumes nothing.
 use Prim.Native.Nat.{ℕ, _+_, _*_, _-_, _/_, _%_}
-use Prim.Native.Char.{code}
 use mathlib.Core.Bool.{cond, _&&_}
 use mathlib.Core.List.{List, [], _∷_}
-use lib.Dec.{leb, ltb}
+use lib.Dec.{ltb}
 use lib.ListN.{getD}
-
--- The digit of a value below 16: 0-9, then A-F.
-unfoldable pub digit : ℕ → ℕ
-digit value = cond (ltb value 10) (code "0" + value) (code "A" + (value - 10))
-
--- The value of a digit; a byte that is none has 16.
-unfoldable pub digit-value : ℕ → ℕ
-digit-value b =
-    cond (leb (code "0") b && leb b (code "9")) (b - code "0")
-    (cond (leb (code "A") b && leb b (code "F")) (b - code "A" + 10)
-    16)
+use Rattle.text.specs.Digits.{digit, digit-value}
 
 -- The two digits of a byte.
 abbrev pub digits-of : ℕ → List ℕ

@@ -3,4 +3,4 @@ pub mod Exported
 pub mod Imported
 pub mod Layout
 pub mod Lines
-pub mod Placed
+pub mod Returns

@@ -8,7 +8,6 @@ use lib.Dec.{leb, ltb, eqb}
 use lib.ListN.{getD, drop}
 use Rattle.intel_hex.specs.Digits.{byte}
 use Rattle.intel_hex.specs.Layout.{sum}
-use Rattle.intel_hex.specs.declared.lines.Span.{Span}
 use Rattle.intel_hex.specs.declared.lines.Line.{Line}
 use Rattle.intel_hex.specs.declared.lines.Line.the-variants.{Data, Upper, End, IllFormed}
 
@@ -41,7 +40,7 @@ signs-of line = 11 + 2 * count-of line
 
 -- How many bytes end a line that has these two next: a line feed, or a carriage return and a line feed; 0 where none does.
 unfoldable pub ending-of : ℕ → ℕ → ℕ
-ending-of a b = cond (eqb a (code "\n")) 1 (cond (eqb a 13 && eqb b (code "\n")) 2 0)
+ending-of a b = cond (eqb a (code "\n")) 1 (cond (eqb a (code "\r") && eqb b (code "\n")) 2 0)
 
 unfoldable pub ending : List ℕ → ℕ
 ending rest = ending-of (getD rest 0 0) (getD rest 1 0)

@@ -1,12 +1,16 @@
 // Export (document 02, W4): sixteen data bytes a record, a type 04 record at the start and at each 64 KiB, one end record.
+use crate::KIB_64;
+use crate::MOST;
+use text::digit_of;
+use text::put_byte;
 ghost use Prim.Native.Nat.{_+_, _*_, _/_, _%_, _≤_, _<_};
 ghost use mathlib.Core.Path.{_≡_};
 ghost use mathlib.Core.List.{[], _∷_, _++_};
 ghost use lib.ListN.{length, take, drop};
-ghost use Rattle.intel_hex.specs.Digits.{digit, digits-of};
+ghost use Rattle.intel_hex.specs.Digits.{digits-of};
 ghost use Rattle.intel_hex.specs.Layout.{pairs, sum, sum-byte, head-bytes, record-line, word-bytes, data-bytes};
 ghost use Rattle.intel_hex.specs.Exported.{upper-line, end-line, upper-before, row-count, row, rows, exported, exported-length, Exports};
-ghost use Rattle.intel_hex.specs.Placed.{Placed};
+ghost use Rattle.text.specs.Placed.{Placed};
 
 // What an export answers: how many bytes it wrote, refusal 2 or refusal 9.
 pub enum Exported {
@@ -16,25 +20,6 @@ pub enum Exported {
 }
 
 // Each function that puts something into the output from a place on answers the place after it.
-
-fn put_byte(out: &mut [u8], at: usize, byte: u8) -> usize
-    requires { ⌜ at < length (now out) ⌝ }
-    ensures { λ r. ⌜ Placed at (byte ∷ []) (now (out .entry)) r (now (out .exit)) ⌝ }
-{
-    out[at] = byte;
-    at + 1
-}
-
-// The digit of a value below 16.
-fn digit_of(value: usize) -> u8
-    requires { ⌜ value < 16 ⌝ }
-    ensures { λ r. ⌜ r ≡ digit value ⌝ }
-{
-    if value < 10 {
-        return b'0' + value as u8;
-    }
-    b'A' + (value - 10) as u8
-}
 
 // A byte, as two digits.
 fn put_pair(out: &mut [u8], at: usize, byte: usize) -> usize
@@ -46,15 +31,15 @@ fn put_pair(out: &mut [u8], at: usize, byte: usize) -> usize
 }
 
 // The colon, the count, the address and the type.
-fn put_head(out: &mut [u8], at: usize, count: usize, address: usize, kind: usize) -> usize
+fn put_head(out: &mut [u8], at: usize, count: usize, address: usize, record_type: usize) -> usize
     requires { ⌜ at + 9 ≤ length (now out) ⌝ }
-    ensures { λ r. ⌜ Placed at (58 ∷ pairs (head-bytes count address kind)) (now (out .entry)) r (now (out .exit)) ⌝ }
+    ensures { λ r. ⌜ Placed at (58 ∷ pairs (head-bytes count address «record_type»)) (now (out .entry)) r (now (out .exit)) ⌝ }
 {
     let mut next = put_byte(out, at, b':');
     next = put_pair(out, next, count);
     next = put_pair(out, next, address / 256);
     next = put_pair(out, next, address % 256);
-    put_pair(out, next, kind)
+    put_pair(out, next, record_type)
 }
 
 // The sum of a record whose other bytes add up to `total`, and the line feed.
@@ -186,7 +171,7 @@ fn put_row(out: &mut [u8], at: usize, main: &[u32], i: usize) -> usize
 {
     let next = put_upper_before(out, at, i);
     let count = words_in_row(main.len(), i);
-    put_data(out, next, main, 4 * i, count, 16 * i % 65536)
+    put_data(out, next, main, 4 * i, count, 16 * i % KIB_64)
 }
 
 // All rows.
@@ -229,7 +214,7 @@ fn length_of(n: usize) -> usize
 pub fn export_hex(main: &[u32], out: &mut [u8]) -> Exported
     ensures { λ r. ⌜ Exports (now (main .entry)) (now (out .entry)) r (now (out .exit)) ⌝ }
 {
-    if main.len() > 1048576 {
+    if main.len() > MOST {
         return Exported::MainTooLong;
     }
     let length = length_of(main.len());

@@ -1,4 +1,5 @@
 // Import (document 02, W4): the text is judged whole, then its words go to main.
+use crate::MOST;
 use crate::lines::Line;
 use crate::lines::Span;
 use crate::lines::byte_at;
@@ -78,7 +79,7 @@ fn judge(text: &[u8], room: usize) -> Verdict
     ensures { λ r. ⌜ r ≡ verdict (text-of room 0 (now (text .entry))) ⌝ }
 {
     let mut at: usize = 0;
-    let mut base: usize = 0;
+    let mut base: usize = 0; // the upper address at first
     let mut lines: usize = 0;
     loop {
         let turn = turn_at(room, base, line_at(text, at));
@@ -171,7 +172,7 @@ fn store(main: &mut [u32], text: &[u8])
 pub fn import_hex(main: &mut [u32], used: usize, text: &[u8]) -> Import
     ensures { λ r. ⌜ Imports (now (main .entry)) used (now (text .entry)) r (now (main .exit)) ⌝ }
 {
-    if main.len() > 1048576 {
+    if main.len() > MOST {
         return Import {
             answer: Imported::MainTooLong,
             used: used,

@@ -1,8 +1,10 @@
 // One line of an import (document 02, W4): a record in the standard's layout, then perhaps a carriage return, then a line feed.
+use crate::KIB_64;
+use text::digit_value;
 ghost use Prim.Native.Nat.{_≤_};
 ghost use mathlib.Core.Path.{_≡_};
 ghost use lib.ListN.{length, drop};
-ghost use Rattle.intel_hex.specs.Digits.{digit-value, byte};
+ghost use Rattle.intel_hex.specs.Digits.{byte};
 ghost use Rattle.intel_hex.specs.Lines.{bytes, summed, ending, size-of, well-formed, data-line, end-of, upper-of, layout-of, line-of};
 
 // The words of a data record, from the start of its 64 KiB.
@@ -19,17 +21,6 @@ pub enum Line {
     IllFormed,
 }
 
-// The value of a hex digit, or 16 for a byte that is none.
-fn digit_value(byte: u8) -> usize
-    ensures { λ r. ⌜ r ≡ digit-value byte ⌝ }
-{
-    match byte {
-        b'0'..=b'9' => (byte - b'0') as usize,
-        b'A'..=b'F' => (byte - b'A') as usize + 10,
-        _ => 16,
-    }
-}
-
 // The byte that two digits of the text stand for, or 256.
 pub fn byte_at(text: &[u8], at: usize) -> usize
     ensures { λ r. ⌜ (r ≡ byte (drop at (now (text .entry)))) × (r ≤ 256) ⌝ }
@@ -37,14 +28,14 @@ pub fn byte_at(text: &[u8], at: usize) -> usize
     if at >= text.len() {
         return 256;
     }
-    let high = digit_value(text[at]);
+    let high = digit_value(text[at]) as usize;
     if high >= 16 {
         return 256;
     }
     if at + 1 == text.len() {
         return 256;
     }
-    let low = digit_value(text[at + 1]);
+    let low = digit_value(text[at + 1]) as usize;
     if low >= 16 {
         return 256;
     }
@@ -130,7 +121,7 @@ fn data_of(count: usize, address: usize) -> Line
     if address % 4 != 0 {
         return Line::IllFormed;
     }
-    if address + count > 65536 {
+    if address + count > KIB_64 {
         return Line::IllFormed;
     }
     Line::Data(Span {
@@ -172,14 +163,14 @@ pub fn layout_at(text: &[u8], at: usize) -> Line
     let count = byte_at(text, at + 1);
     let high = byte_at(text, at + 3);
     let low = byte_at(text, at + 5);
-    let kind = byte_at(text, at + 7);
-    if kind == 0 {
+    let record_type = byte_at(text, at + 7);
+    if record_type == 0 {
         return data_of(count, 256 * high + low);
     }
-    if kind == 1 {
+    if record_type == 1 {
         return end_of(count, 256 * high + low);
     }
-    if kind != 4 {
+    if record_type != 4 {
         return Line::IllFormed;
     }
     let upper_high = byte_at(text, at + 9);

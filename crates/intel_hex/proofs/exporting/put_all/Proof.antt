@@ -6,7 +6,7 @@ use native.Mathlib.Omega.{arith}
 use lib.ListN.{length}
 use Rattle.intel_hex.specs.Exported.{exported}
 use Rattle.intel_hex.proofs.Lengths.{upper-length, whole-length}
-use Rattle.intel_hex.proofs.Placing.{put-then}
+use Rattle.text.proofs.Placing.{put-then}
 use Rattle.intel_hex.proofs.exporting.put_all.Statement.{statement}
 use Rattle.intel_hex.proofs.exporting.put_all.Tie as tie
 

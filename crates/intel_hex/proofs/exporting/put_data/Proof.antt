@@ -8,7 +8,7 @@ use lib.ListN.{length, take, drop, length-drop}
 use lib.Seq.{length-take-le}
 use Rattle.intel_hex.specs.Layout.{data-bytes}
 use Rattle.intel_hex.proofs.Lengths.{data-length, words-length, data-line-is}
-use Rattle.intel_hex.proofs.Placing.{put-then}
+use Rattle.text.proofs.Placing.{put-then}
 use Rattle.intel_hex.proofs.exporting.put_data.Statement.{statement}
 use Rattle.intel_hex.proofs.exporting.put_data.Tie as tie
 

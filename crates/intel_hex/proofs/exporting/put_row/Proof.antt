@@ -1,13 +1,14 @@
 -- The type 04 record, if there is one, and the data record; the row has as many words as main still has, at most four.
 -- Assumes nothing.
 use borrow.Author.Needs.{needs}
-use Prim.Native.Nat.{_+_, _*_, _≤_}
+use Prim.Native.Nat.{_+_, _*_, _%_, _≤_}
 use mathlib.Core.Path.{_≡_}
 use native.Mathlib.Omega.{arith}
-use lib.ListN.{length}
+use lib.ListN.{length, take, drop}
+use Rattle.intel_hex.specs.Layout.{record-line, data-bytes}
 use Rattle.intel_hex.specs.Exported.{row-count}
 use Rattle.intel_hex.proofs.Lengths.{count-small, count-left, row-length, row-words-are}
-use Rattle.intel_hex.proofs.Placing.{put-then}
+use Rattle.text.proofs.Placing.{put-then}
 use Rattle.intel_hex.proofs.exporting.put_row.Statement.{statement}
 use Rattle.intel_hex.proofs.exporting.put_row.Tie as tie
 
@@ -46,8 +47,10 @@ returns c =
     let s = c .before .before .before .before .before .before .before .before .before .before .before in
     let main = s .args .main .now in
     let room : s .args .at ≤ length (s .args .out .now) = omega (arith, s .pre .0) in
+    let count = c .before .before .before .before .words-in-row .result in
+    let line = record-line 0 (16 * s .args .i % 65536) (data-bytes (take count (drop (4 * s .args .i) main))) in
     rw (row-words-are main (s .args .i), ← c .before .before .before .before .words-in-row .ensures)
-    (put-then room (c .before .before .before .before .before .before .before .put-upper-before .ensures) (c .before .before .put-data .ensures))
+    (put-then {t = line} room (c .before .before .before .before .before .before .before .put-upper-before .ensures) (c .before .before .put-data .ensures))
 
 pub put-row-spec : {M : Type 1} → statement M
 put-row-spec =

@@ -7,9 +7,9 @@ use mathlib.Core.List.{_++_}
 use native.Mathlib.Omega.{arith}
 use lib.ListN.{length}
 use Rattle.intel_hex.specs.Exported.{row, rows}
-use Rattle.intel_hex.specs.Placed.{Placed}
+use Rattle.text.specs.Placed.{Placed}
 use Rattle.intel_hex.proofs.Lengths.{one-row-more, rows-room}
-use Rattle.intel_hex.proofs.Placing.{put-nothing, put-then}
+use Rattle.text.proofs.Placing.{put-nothing, put-then}
 use Rattle.intel_hex.proofs.exporting.put_rows.Statement.{statement}
 use Rattle.intel_hex.proofs.exporting.put_rows.Tie as tie
 

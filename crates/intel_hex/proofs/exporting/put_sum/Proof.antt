@@ -5,7 +5,7 @@ use Prim.Native.Nat.{_≤_}
 use native.Mathlib.Omega.{arith}
 use lib.ListN.{length}
 use Rattle.intel_hex.specs.Layout.{sum-byte}
-use Rattle.intel_hex.proofs.Placing.{put-then}
+use Rattle.text.proofs.Placing.{put-then}
 use Rattle.intel_hex.proofs.exporting.put_sum.Statement.{statement}
 use Rattle.intel_hex.proofs.exporting.put_sum.Tie as tie
 

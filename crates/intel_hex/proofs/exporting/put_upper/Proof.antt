@@ -7,7 +7,7 @@ use native.Mathlib.Omega.{arith}
 use lib.ListN.{length}
 use Rattle.intel_hex.specs.Layout.{record-line}
 use Rattle.intel_hex.specs.Exported.{upper-line}
-use Rattle.intel_hex.proofs.Placing.{put-then}
+use Rattle.text.proofs.Placing.{put-then}
 use Rattle.intel_hex.proofs.exporting.put_upper.Statement.{statement}
 use Rattle.intel_hex.proofs.exporting.put_upper.Tie as tie
 

@@ -8,7 +8,7 @@ use lib.ListN.{length}
 use borrow.Author.Tests.{lt-ltb, le-ltb, eq-eqb, ne-eqb}
 use Rattle.intel_hex.specs.Exported.{upper-before, upper-line}
 use Rattle.intel_hex.proofs.Lengths.{upper-length, no-upper, no-upper-within, one-upper}
-use Rattle.intel_hex.proofs.Placing.{put-nothing}
+use Rattle.text.proofs.Placing.{put-nothing}
 use Rattle.intel_hex.proofs.exporting.put_upper_before.Statement.{statement}
 use Rattle.intel_hex.proofs.exporting.put_upper_before.Tie as tie
 

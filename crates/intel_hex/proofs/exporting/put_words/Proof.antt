@@ -8,9 +8,9 @@ use native.Mathlib.Omega.{arith}
 use native.Mathlib.Nat.{add-zero}
 use lib.ListN.{length, getD, take, drop}
 use Rattle.intel_hex.specs.Layout.{pairs, word-bytes, data-bytes}
-use Rattle.intel_hex.specs.Placed.{Placed}
+use Rattle.text.specs.Placed.{Placed}
 use Rattle.intel_hex.proofs.Lengths.{words-length, one-word-more}
-use Rattle.intel_hex.proofs.Placing.{put-nothing, put-then}
+use Rattle.text.proofs.Placing.{put-nothing, put-then}
 use Rattle.intel_hex.proofs.exporting.put_words.Statement.{statement}
 use Rattle.intel_hex.proofs.exporting.put_words.Tie as tie
 

@@ -5,7 +5,7 @@ use Prim.Native.Nat.{_+_}
 use mathlib.Core.Path.{ap, sym, _∙_}
 use native.Mathlib.Omega.{arith}
 use lib.ListN.{getD}
-use Rattle.intel_hex.specs.Digits.{digit-value}
+use Rattle.text.specs.Digits.{digit-value}
 use Rattle.intel_hex.proofs.Bytes.{no-high, no-low, both, byte-there, byte-past, byte-short}
 use Rattle.intel_hex.proofs.lines.byte_at.Statement.{statement}
 use Rattle.intel_hex.proofs.lines.byte_at.Tie as tie
@@ -19,6 +19,9 @@ shared-slice-read-digit-value c = search needs
 
 digit-value-requires : tie.Need-digit-value-requires
 digit-value-requires c κs = search needs
+
+cast-high : tie.Need-cast-high
+cast-high c = search needs
 
 returns-2 : tie.Need-returns-2
 returns-2 c =
@@ -43,6 +46,9 @@ shared-slice-read-digit-value-2 c = search needs
 
 digit-value-requires-2 : tie.Need-digit-value-requires-2
 digit-value-requires-2 c κs = search needs
+
+cast-low : tie.Need-cast-low
+cast-low c = search needs
 
 returns-4 : tie.Need-returns-4
 returns-4 c =
@@ -75,12 +81,14 @@ byte-at-spec =
     returns
     shared-slice-read-digit-value
     digit-value-requires
+    cast-high
     returns-2
     add-if3
     returns-3
     add-digit-value
     shared-slice-read-digit-value-2
     digit-value-requires-2
+    cast-low
     returns-4
     mul-result
     add-result
