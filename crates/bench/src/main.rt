@@ -56,7 +56,7 @@ struct Taken {
     count: usize,
 }
 
-// Takes back until it is refused. A record has three bytes or more, so the turns are fewer than the bytes that were in use.
+// Takes back until it is refused. A record has four bytes or more, so the turns are fewer than the bytes that were in use.
 fn take_back_all(
     m: Machine,
     main: &mut [u32],

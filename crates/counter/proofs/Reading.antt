@@ -173,3 +173,35 @@ module _ {text main after : List ℕ} {r : Loaded} {n : ℕ} (e : r ≡ Words n)
 
   pub loaded-count : n ≡ length (take n after)
   loaded-count = sym (length-take-le n after loaded-within)
+
+-- The first bad line is at most the one after those that main has room for.
+bad-within : (room : ℕ) (text : List ℕ) (n : ℕ) → routine-of room text ≡ bad n → n ≤ suc room
+unfolding routine-of
+bad-within zero [] n e = clash (cc)
+bad-within zero (b ∷ text) n e =
+    let k : 1 ≡ n = cc in
+    omega arith
+bad-within (suc room) [] n e = clash (cc)
+bad-within (suc room) (b ∷ text) n e =
+    go (first-line (b ∷ text)) (routine-of room (drop 9 (b ∷ text))) e (bad-within room (drop 9 (b ∷ text)))
+  where
+    go : (l : Line) (r : Routine) → then-lines l r ≡ bad n → ((m : ℕ) → r ≡ bad m → m ≤ suc room) → n ≤ suc (suc room)
+    go IllFormed r q ih =
+        let k : 1 ≡ n = cc in
+        omega arith
+    go (Word w) (words ws) q ih = clash (cc)
+    go (Word w) (bad m) q ih =
+        let k : suc m ≡ n = cc in
+        omega (arith, ih m refl)
+
+pub bad-line-within : {text main after : List ℕ} {r : Loaded} {n : ℕ} → r ≡ BadLine n → Loads text main r after → n ≤ suc (length main)
+bad-line-within {text} {main} {after} {r} {n} e loads = go (routine-of (length main) text) refl
+  where
+    go : (x : Routine) → routine-of (length main) text ≡ x → n ≤ suc (length main)
+    go (words ws) q =
+        let f : Words (length ws) ≡ BadLine n = sym (loads .answer-is ∙ ap answer q) ∙ e in
+        clash (cc)
+    go (bad m) q =
+        let f : BadLine m ≡ BadLine n = sym (loads .answer-is ∙ ap answer q) ∙ e in
+        let k : m ≡ n = cc in
+        omega (arith, bad-within (length main) text m q)

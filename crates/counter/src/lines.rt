@@ -14,7 +14,8 @@ ghost use Rattle.counter.specs.Lines.{flag, name, registers, in-use, run
 
 // Each function that puts something into the buffer from a place on answers the place after it.
 
-fn put_register(out: &mut [u8], at: usize, label: &[u8], width: usize, value: u32) -> usize
+// A label, and the last digits of a value in hex.
+pub fn put_register(out: &mut [u8], at: usize, label: &[u8], width: usize, value: u32) -> usize
     requires { ⌜ at + (length (now label) + width) ≤ length (now out) ⌝ }
     ensures { λ r. ⌜ Placed at (now (label .entry) ++ hex width value) (now (out .entry)) r (now (out .exit)) ⌝ }
 {

@@ -3,7 +3,7 @@ use text::digit_value;
 ghost use mathlib.Core.Path.{_≡_};
 ghost use Prim.Native.Nat.{_≤_};
 ghost use lib.ListN.{length, drop};
-ghost use Rattle.counter.specs.Routine.{first-line, routine-of, answer, main-after, Loads};
+ghost use Rattle.counter.specs.Routine.{line-after, routine-of, answer, main-after, Loads};
 
 // What a line holds.
 pub enum Line {
@@ -17,15 +17,15 @@ pub enum Loaded {
     BadLine(usize),
 }
 
-// The line that starts at a place of the text.
-fn line_at(text: &[u8], at: usize) -> Line
-    requires { ⌜ at ≤ length (now text) ⌝ }
-    ensures { λ r. ⌜ r ≡ first-line (drop at (now (text .entry))) ⌝ }
+// The line of so many digits that starts at a place of the text.
+pub fn line_at(text: &[u8], at: usize, width: usize) -> Line
+    requires { ⌜ (at ≤ length (now text)) × (width ≤ 8) ⌝ }
+    ensures { λ r. ⌜ r ≡ line-after width 0 (drop at (now (text .entry))) ⌝ }
 {
     let mut word: u32 = 0;
     let mut digits: usize = 0;
     let mut next = at;
-    while digits < 8 {
+    while digits < width {
         if next == text.len() {
             return Line::IllFormed; // the text ends among the digits
         }
@@ -57,7 +57,7 @@ fn judge(text: &[u8], room: usize) -> Loaded
         if done == room {
             return Loaded::BadLine(number);
         }
-        let Line::Word(_) = line_at(text, at) else {
+        let Line::Word(_) = line_at(text, at, 8) else {
             return Loaded::BadLine(number);
         };
         at += 9;
@@ -74,7 +74,7 @@ fn store(text: &[u8], main: &mut [u32], count: usize)
     let mut at: usize = 0;
     let mut done: usize = 0;
     while done < count {
-        let Line::Word(word) = line_at(text, at) else {
+        let Line::Word(word) = line_at(text, at, 8) else {
             return;
         };
         main[done] = word;

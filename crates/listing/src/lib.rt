@@ -3,4 +3,6 @@ mod line;
 mod store;
 
 pub use store::Listed;
+pub use store::OneLine;
+pub use store::line_of_word;
 pub use store::list;

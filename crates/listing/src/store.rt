@@ -2,7 +2,7 @@
 use crate::line::put_line;
 ghost use Prim.Native.Nat.{_≤_, _^_};
 ghost use mathlib.Core.Path.{_≡_};
-ghost use lib.ListN.{length};
+ghost use lib.ListN.{length, take};
 ghost use Rattle.text.specs.Placed.{Placed};
 ghost use Rattle.instruction.specs.Classes.{Classified};
 ghost use Rattle.language.specs.Line.{line};
@@ -17,6 +17,22 @@ pub enum Listed {
 
 // The most words of a store.
 const MOST: usize = 0x10_0000;
+
+// The line of one word: how many bytes it has, and these at the start of 24.
+pub struct OneLine {
+    pub bytes: [u8; 24],
+    pub len: usize,
+}
+
+// The line of a word at an address, whose last five digits it tells.
+pub fn line_of_word(address: usize, w: u32) -> OneLine
+    ensures { λ r. ⌜ (r .len ≤ length (r .bytes)) × (take (r .len) (r .bytes) ≡ line address w) ⌝ }
+{
+    let table = instruction::class_table();
+    let mut bytes = [0u8; 24];
+    let len = put_line(&table, &mut bytes, 0, address, w);
+    OneLine { bytes, len }
+}
 
 // The length of a word's line, which is the same at every address.
 fn line_length(table: &[u8; 1024], w: u32) -> usize

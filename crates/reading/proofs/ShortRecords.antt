@@ -22,9 +22,11 @@ use Rattle.trail.specs.Newest.{and-then, at-end, read-from-marks, read-in-form,
 use Rattle.trail.proofs.NewestReadsBack.{too-short}
 use Rattle.reading.specs.declared.numbers.Number.{Number}
 use Rattle.reading.specs.declared.numbers.Number.the-variants.{Got, Broken}
+use Rattle.reading.specs.declared.short.Pair.{Pair}
+use Rattle.reading.specs.declared.short.Pair.the-variants as pair
 use Rattle.reading.specs.declared.short.ShortRecord.{ShortRecord}
 use Rattle.reading.specs.declared.short.ShortRecord.the-variants as short
-use Rattle.reading.specs.Finding.{number-of, after-kind, Holds, Says}
+use Rattle.reading.specs.Finding.{number-of, after-kind, Holds, Marked, Says, TwoBytes, with-value}
 use Rattle.reading.proofs.ReadingGroups.{no-bytes}
 use Rattle.reading.proofs.ReadingNumbers.{first-byte, is-got, is-broken}
 
@@ -239,6 +241,42 @@ module _ (kind : ℕ) (s : List ℕ) (end k m : ℕ) (some-bytes : 2 ≤ k) (ins
 
           pub more-marked : (m % 16 ≡ 0 → ⊥) → (m % 16 ≡ 1 → ⊥) → (m % 16 ≡ 2 → ⊥) → (m % 16 ≡ 4 → ⊥) → after-kind kind s end k ≡ newest.Broken
           more-marked z za zx zy = p-first ∙ ap (leaving (end - k - 1)) (more-left kind m b c h z za zx zy)
+
+pub pair-is : (s : List ℕ) (end : ℕ) {r t : Pair} → r ≡ t → TwoBytes s end r → TwoBytes s end t
+pair-is s end e h = subst (TwoBytes s end) e h
+
+-- Four bytes stand before L, and something is marked: the kind, the marks, and two bytes.
+module _ (kind : ℕ) (s : List ℕ) (end m : ℕ) (four : 4 ≤ end) (fits : end < length s) (mark : Marked s (end - 3) m) (some : m % 16 ≡ 0 → ⊥) where
+  after-marks : end - 3 + 1 ≡ end - 2
+  after-marks = omega arith
+
+  at-p : (b c : ℕ) → slice (end - 2) end s ≡ b ∷ (c ∷ []) → slice (end - 3 + 1) end s ≡ b ∷ (c ∷ [])
+  at-p b c e = rw after-marks e
+
+  pub pair-broken : TwoBytes s end pair.Broken → after-kind kind s end 3 ≡ newest.Broken
+  pair-broken t = go (ltb (getD s (end - 2) 0) 128) refl
+    where
+      go : (x : Bool) → ltb (getD s (end - 2) 0) 128 ≡ x → after-kind kind s end 3 ≡ newest.Broken
+      go true e =
+          let l = ltb-true (getD s (end - 2) 0) 128 e in
+          value-lacking kind s end 3 m (omega arith) (omega arith) fits (mark .byte) (mark .small) (getD s (end - 2) 0) (getD s (end - 1) 0) (at-p _ _ (t .0)) l some (t .1 l)
+      go false e =
+          p-takes-both kind s end 3 m (omega arith) (omega arith) fits (mark .byte) (mark .small) (getD s (end - 2) 0) (getD s (end - 1) 0) (at-p _ _ (t .0)) some (ltb-false (getD s (end - 2) 0) 128 e)
+
+  pub pair-says : (p v : ℕ) → TwoBytes s end (pair.Got p v) → Says 4 (with-value kind m p v (end - 4)) (after-kind kind s end 3)
+  unfolding with-value
+  pair-says p v t = go (eqb (m % 16) 1) (eqb (m % 16) 2) (eqb (m % 16) 4) refl refl refl
+    where
+      left : end - 4 ≡ end - 3 - 1
+      left = omega arith
+
+      go : (x y z : Bool) → eqb (m % 16) 1 ≡ x → eqb (m % 16) 2 ≡ y → eqb (m % 16) 4 ≡ z → Says 4 (with-value kind m p v (end - 4)) (after-kind kind s end 3)
+      go true y z e f g = rw (e, left) (a-marked kind s end 3 m (omega arith) (omega arith) fits (mark .byte) (mark .small) p v (at-p p v (t .0)) (t .1) (t .2) (eqb-true (m % 16) 1 e))
+      go false true z e f g = rw (e, f, left) (x-marked kind s end 3 m (omega arith) (omega arith) fits (mark .byte) (mark .small) p v (at-p p v (t .0)) (t .1) (t .2) (eqb-true (m % 16) 2 f))
+      go false false true e f g = rw (e, f, g, left) (y-marked kind s end 3 m (omega arith) (omega arith) fits (mark .byte) (mark .small) p v (at-p p v (t .0)) (t .1) (t .2) (eqb-true (m % 16) 4 g))
+      go false false false e f g =
+          rw (e, f, g)
+          (more-marked kind s end 3 m (omega arith) (omega arith) fits (mark .byte) (mark .small) p v (at-p p v (t .0)) (t .1) (t .2) some (eqb-false (m % 16) 1 e) (eqb-false (m % 16) 2 f) (eqb-false (m % 16) 4 g))
 
 -- ---- the kind, before those bytes
 

@@ -7,10 +7,11 @@ use crate::from_end::SHORTEST;
 use crate::numbers::Number;
 use crate::reader::read_number;
 use trail::OldValues;
-ghost use Prim.Native.Nat.{ℕ, _-_, _^_, _<_, _≤_};
+ghost use mathlib.Core.Path.{_≡_};
+ghost use Prim.Native.Nat.{ℕ, _-_, _%_, _<_, _≤_};
 ghost use lib.ListN.{length, getD};
 ghost use Rattle.trail.specs.Newest.{newest-fitted};
-ghost use Rattle.reading.specs.Finding.{Says, after-kind};
+ghost use Rattle.reading.specs.Finding.{Says, Marked, TwoBytes, with-value, after-kind};
 
 // The bounds of an L so small, and of a number of one group.
 const SHORT: u64 = 5;
@@ -56,41 +57,56 @@ fn two_bytes(kind: u32, trail: &[u8], end: usize) -> ShortRecord
     ShortRecord::Kept(o, start - 1)
 }
 
-// After the kind, marks and P in two bytes, if nothing is marked; else marks, P and the only value, each one byte.
-fn three_bytes(kind: u32, trail: &[u8], end: usize) -> ShortRecord
-    requires { ⌜ (4 ≤ end) × (end < length (now trail)) ⌝ }
+// After the kind and marks that mark nothing, P in two bytes.
+fn wide_p(kind: u32, marks: u32, trail: &[u8], end: usize) -> ShortRecord
+    requires { ⌜ (4 ≤ end) × (end < length (now trail)) × Marked (now trail) (end - 3) marks × (marks % 16 ≡ 0) ⌝ }
     ensures { λ r. ⌜ Says 4 r (after-kind kind (now (trail .entry)) end 3) ⌝ }
 {
     let start = end - 3;
-    let Number::Got(marks, _) = read_number(trail, start, start + 1, MARKS) else {
+    let Number::Got(p, next) = read_number(trail, start + 1, end, ADDRESSES) else {
         return ShortRecord::Broken;
     };
-    let changed = marks % 16;
-    if changed == 0 {
-        let Number::Got(p, next) = read_number(trail, start + 1, end, ADDRESSES) else {
-            return ShortRecord::Broken;
+    if next == end {
+        let o = OldValues {
+            kind,
+            marks,
+            p,
+            a: 0,
+            x: 0,
+            y: 0,
+            place: 0,
+            value: 0,
         };
-        if next == end {
-            let o = OldValues {
-                kind,
-                marks,
-                p,
-                a: 0,
-                x: 0,
-                y: 0,
-                place: 0,
-                value: 0,
-            };
-            return ShortRecord::Kept(o, start - 1);
-        }
-        return ShortRecord::Broken;
+        return ShortRecord::Kept(o, start - 1);
     }
-    let Number::Got(p, _) = read_number(trail, start + 1, start + 2, GROUP) else {
-        return ShortRecord::Broken;
+    ShortRecord::Broken
+}
+
+// Two numbers of one byte each, or one of them is broken.
+enum Pair {
+    Got(u32, u32),
+    Broken,
+}
+
+// The two bytes before L, each a number.
+fn two_numbers(trail: &[u8], end: usize) -> Pair
+    requires { ⌜ (2 ≤ end) × (end < length (now trail)) ⌝ }
+    ensures { λ r. ⌜ TwoBytes (now (trail .entry)) end r ⌝ }
+{
+    let Number::Got(p, _) = read_number(trail, end - 2, end - 1, GROUP) else {
+        return Pair::Broken;
     };
-    let Number::Got(value, _) = read_number(trail, start + 2, end, GROUP) else {
-        return ShortRecord::Broken;
+    let Number::Got(value, _) = read_number(trail, end - 1, end, GROUP) else {
+        return Pair::Broken;
     };
+    Pair::Got(p, value)
+}
+
+// A record with the only value that these marks mark. A word or two registers do not go into one byte.
+fn with_value(kind: u32, marks: u32, p: u32, value: u32, left: usize) -> ShortRecord
+    ensures { λ r. ⌜ r ≡ with-value kind marks p value left ⌝ }
+{
+    let changed = marks % 16;
     if changed == 1 {
         let o = OldValues {
             kind,
@@ -102,7 +118,7 @@ fn three_bytes(kind: u32, trail: &[u8], end: usize) -> ShortRecord
             place: 0,
             value: 0,
         };
-        return ShortRecord::A(o, start - 1);
+        return ShortRecord::A(o, left);
     }
     if changed == 2 {
         let o = OldValues {
@@ -115,7 +131,7 @@ fn three_bytes(kind: u32, trail: &[u8], end: usize) -> ShortRecord
             place: 0,
             value: 0,
         };
-        return ShortRecord::X(o, start - 1);
+        return ShortRecord::X(o, left);
     }
     if changed == 4 {
         let o = OldValues {
@@ -128,9 +144,8 @@ fn three_bytes(kind: u32, trail: &[u8], end: usize) -> ShortRecord
             place: 0,
             value: 0,
         };
-        return ShortRecord::Y(o, start - 1);
+        return ShortRecord::Y(o, left);
     }
-    // A word or two registers do not go into one byte.
     ShortRecord::Broken
 }
 
@@ -156,5 +171,15 @@ pub fn read_short(trail: &[u8], used: usize) -> ShortRecord
     if l == SHORTEST {
         return two_bytes(kind, trail, end);
     }
-    three_bytes(kind, trail, end)
+    let Number::Got(marks, _) = read_number(trail, end - 3, end - 3 + 1, MARKS) else {
+        return ShortRecord::Broken;
+    };
+    if marks % 16 == 0 {
+        return wide_p(kind, marks, trail, end);
+    }
+    // Something is marked: P and the only value have one byte each.
+    let Pair::Got(p, value) = two_numbers(trail, end) else {
+        return ShortRecord::Broken;
+    };
+    with_value(kind, marks, p, value, end - 4)
 }
