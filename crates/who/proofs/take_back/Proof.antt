@@ -1,65 +1,56 @@
+-- Each turn takes back one more, and there are as many turns as were asked for.
+-- Assumes nothing.
+use Prim.Native.Nat.{_-_}
+use mathlib.Core.Path.{_≡_}
+use lib.ListN.{length}
+use borrow.Author.Needs.{needs}
 use Rattle.who.proofs.take_back.Statement.{statement}
 use Rattle.who.proofs.take_back.Tie as tie
-use Rattle.who.proofs.take_back.Reads as reads
-use Rattle.who.proofs.take_back.Lts as lts
-use Rattle.viper.proofs.calls.take_back.Reads as take-back-reads
 
 abbrev Inv-loop : tie.InvT-loop
-Inv-loop main₀ ports₀ trail used count current₀ left₀ done₀ main ports current left done = ?
+Inv-loop main₀ ports₀ trail used count current₀ left₀ done₀ main ports current left done = (length main ≡ length main₀) × (length ports ≡ length ports₀)
 
 abbrev μ-loop : tie.MeasureT-loop
-μ-loop main₀ ports₀ trail used count current₀ left₀ done₀ main ports current left done = ?
+μ-loop main₀ ports₀ trail used count current₀ left₀ done₀ main ports current left done = count - done
 
--- src/main.rt:102:5
 loop-holds : tie.Need-loop-holds Inv-loop μ-loop
-loop-holds c = ?
+loop-holds c = search needs
 
--- src/main.rt:103:13
 take-back-requires : tie.Need-take-back-requires Inv-loop μ-loop
-take-back-requires c κs = ?
+take-back-requires c κs = search needs
 
 enum-told : tie.Need-enum-told Inv-loop μ-loop
-enum-told c = ?
+enum-told c = search needs
 
--- src/main.rt:106:13
 enum-told-2 : tie.Need-enum-told-2 Inv-loop μ-loop
-enum-told-2 c = ?
+enum-told-2 c = search needs
 
--- src/main.rt:106:13
 same-length : tie.Need-same-length Inv-loop μ-loop
-same-length c = ?
+same-length c = search needs
 
--- src/main.rt:106:13
 same-length-2 : tie.Need-same-length-2 Inv-loop μ-loop
-same-length-2 c = ?
+same-length-2 c = search needs
 
--- src/main.rt:106:13
 returns : tie.Need-returns Inv-loop μ-loop
-returns c = ?
+returns c = search needs
 
--- src/main.rt:110:9
 add-done : tie.Need-add-done Inv-loop μ-loop
-add-done c = ?
+add-done c = search needs
 
--- src/main.rt:102:5
 loop-less : tie.Need-loop-less Inv-loop μ-loop
-loop-less c = ?
+loop-less c = search needs
 
--- src/main.rt:102:5
 loop-again : tie.Need-loop-again Inv-loop μ-loop
-loop-again c = ?
+loop-again c = search needs
 
--- src/main.rt:91:1
 same-length-3 : tie.Need-same-length-3 Inv-loop μ-loop
-same-length-3 c = ?
+same-length-3 c = search needs
 
--- src/main.rt:91:1
 same-length-4 : tie.Need-same-length-4 Inv-loop μ-loop
-same-length-4 c = ?
+same-length-4 c = search needs
 
--- src/main.rt:91:1
 returns-2 : tie.Need-returns-2 Inv-loop μ-loop
-returns-2 c = ?
+returns-2 c = search needs
 
 pub take-back-spec : {M : Type 1} → statement M
 take-back-spec =
