@@ -2,6 +2,7 @@ pub mod FirstDemand
 pub mod Undoing
 pub mod SecondDemand
 pub mod ThirdDemand
+pub mod StartingAgain
 pub mod WhoMadeThem
 pub mod WhichOperation
 pub mod Uniqueness

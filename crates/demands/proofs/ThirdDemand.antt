@@ -156,7 +156,7 @@ back-sizes b = go (answer back b)
 -- ---- each call keeps the history
 
 module _ (b₀ : Bench) (ok : Valid (b₀ .state)) where
-  valid-now : (b : Bench) (l : List Operation) → Kept b₀ b l → Valid (b .state)
+  pub valid-now : (b : Bench) (l : List Operation) → Kept b₀ b l → Valid (b .state)
   valid-now b l k = rw (k .history .state) (through-valid l (b₀ .state) ok (k .fair))
 
   -- an operation

@@ -18,6 +18,17 @@ use Rattle.viper.specs.Views.{viewed, view-fitted}
 use Rattle.viper.specs.Told.{bench, told, run-told}
 use Rattle.viper.specs.declared.Outcome.{Outcome}
 use Rattle.viper.specs.declared.RunOutcome.{RunOutcome}
+use Rattle.listing.specs.Listing.{Lists}
+use Rattle.listing.specs.declared.store.Listed.{Listed}
+use Rattle.intel_hex.specs.Exported.{Exports}
+use Rattle.intel_hex.specs.declared.exporting.Exported.{Exported}
+use Rattle.intel_hex.specs.Imported.{Imports}
+use Rattle.intel_hex.specs.declared.importing.Import.{Import}
+use Rattle.intel_hex.proofs.Theorems as hex
+use Rattle.moving.specs.Moving.{move}
+use Rattle.moving.specs.declared.Moved.{Moved}
+use Rattle.seeking.specs.Seeking.{sought}
+use Rattle.seeking.specs.declared.Sought.{Sought}
 
 -- What a call hands back, with what both stores and the trail hold at the end.
 pub record Left : Type 0 where
@@ -119,3 +130,29 @@ module _ (main ports : List ℕ) (place : Place) (n : ℕ) where
   -- Whether a stretch is fitted.
   pub fitted-unique : (s t : Bool) → s ≡ view-fitted (length main) (length ports) place n → t ≡ view-fitted (length main) (length ports) place n → s ≡ t
   fitted-unique s t h k = h ∙ sym k
+
+-- A listing, of any main and output (document 02, W1): the answer and every byte of the output.
+module _ (main out : List ℕ) where
+  pub list-unique : (r r′ : Listed) (t t′ : List ℕ) → Lists main out r t → Lists main out r′ t′ → (r ≡ r′) × (t ≡ t′)
+  list-unique r r′ t t′ h k = (h .answer-is ∙ sym (k .answer-is), h .output-is ∙ sym (k .output-is))
+
+  -- An export (W4): the same.
+  pub export-unique : (r r′ : Exported) (t t′ : List ℕ) → Exports main out r t → Exports main out r′ t′ → (r ≡ r′) × (t ≡ t′)
+  export-unique r r′ t t′ h k = hex.export-unique h k
+
+-- An import, of any main, count in use and text: the answer, the count, and every word of main.
+module _ (main : List ℕ) (used : ℕ) (text : List ℕ) where
+  pub import-unique : (r r′ : Import) (m m′ : List ℕ) → Imports main used text r m → Imports main used text r′ m′ → (r ≡ r′) × (m ≡ m′)
+  import-unique r r′ m m′ h k = hex.import-unique h k
+
+-- A trail moved (W12), in either direction, to any output: the answer and every byte of the output.
+module _ (new : Bool) (trail out : List ℕ) where
+  pub move-unique : (r r′ : Moved) (t t′ : List ℕ) → (r, t) ≡ move new trail out → (r′, t′) ≡ move new trail out → (r ≡ r′) × (t ≡ t′)
+  move-unique r r′ t t′ h k =
+      let q = h ∙ sym k in
+      (ap (λ (x : Moved × List ℕ). x .0) q, ap (λ (x : Moved × List ℕ). x .1) q)
+
+-- A word sought (W7): the answer. Nothing is written.
+module _ (main ports : ℕ) (trail : List ℕ) (used : ℕ) (place : Place) where
+  pub find-unique : (r r′ : Sought) → r ≡ sought main ports trail used place → r′ ≡ sought main ports trail used place → r ≡ r′
+  find-unique r r′ h k = h ∙ sym k

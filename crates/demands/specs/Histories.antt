@@ -7,6 +7,10 @@ use mathlib.Core.List.{List, [], _∷_, _++_}
 use lib.ListN.{length, take, replicate}
 use Rattle.report.specs.Section3.{State}
 use Rattle.report.specs.Parts.{InRange}
+use Rattle.machine.specs.Held.{machine-of}
+use Rattle.intel_hex.specs.Imported.{Imports}
+use Rattle.intel_hex.specs.declared.importing.Import.{Import}
+use Rattle.intel_hex.specs.declared.importing.Imported.the-variants.{Accepted}
 use Rattle.viper.specs.Refusals.{if-done}
 use Rattle.viper.specs.Operations.{Bench, Operation, step, reset, force, set-word, next, record-for, Call, operate, run, back, outcome}
 use Rattle.viper.specs.Runs.{run-outcome}
@@ -145,3 +149,16 @@ pub data Session (b₀ : Bench) : Bench → List Operation → Type 0 where
       → run-told r main ports trail ≡ run-outcome n b → Session b₀ (bench (r .machine) main ports trail (r .used)) (noted-run (r .answer) l)
   takes-back : {b : Bench} {l : List Operation} (r : Outcome) (main ports trail : List ℕ) → Session b₀ b l
       → told r main ports trail ≡ back-outcome b → Session b₀ (bench (r .machine) main ports trail (r .used)) (struck (r .answer) l)
+
+-- ---- the history starts again
+
+-- The bench that a call left which starts the history again: an accepted import of Intel HEX (document 02, W4). Main holds the text's words, no byte
+-- of the trail is in use, and machine, ports and trail bytes are as they were.
+pub data StartsAgain (b : Bench) : Bench → Type 0 where
+  imports : (text main : List ℕ) (r : Import) → Imports (b .state .0 .main) (b .used) text r main → r .answer ≡ Accepted
+      → StartsAgain b (bench (machine-of (b .state)) main (b .state .0 .ports) (b .trail) (r .used))
+
+-- The benches where a history begins, of a counter that opened with b₀: that one, and each that a call after a session started again with.
+pub data Begins (b₀ : Bench) : Bench → Type 0 where
+  opened : Begins b₀ b₀
+  again : {start b next : Bench} {l : List Operation} → Begins b₀ start → Session start b l → StartsAgain b next → Begins b₀ next
