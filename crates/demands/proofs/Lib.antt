@@ -7,3 +7,4 @@ pub mod WhoMadeThem
 pub mod WhichOperation
 pub mod Uniqueness
 pub mod ViewCases
+pub mod LongestRecords
