@@ -1,5 +1,6 @@
-/* The benchmark: the same routines forward with their trail, back again, and by single steps, in
- * our bench (include/viper.h) and in its peer (fast.c), in turns within one run.
+/* The benchmark: the same routines forward with their trail, back again, and by single steps, and
+ * the search for a word in such a trail, in our bench (include/viper.h) and in its peer (fast.c),
+ * in turns within one run.
  *
  * benchmark [emulated] */
 
@@ -115,12 +116,15 @@ struct side {
                     size_t *, uint32_t);
     uint32_t (*back)(uint32_t[6], uint32_t *, size_t, uint32_t *, size_t, const uint8_t *, size_t,
                      size_t *);
+    uint32_t (*find)(const uint32_t *, size_t, const uint32_t *, size_t, const uint8_t *, size_t,
+                     size_t, uint32_t, uint32_t, size_t *, uint32_t[8]);
     struct board board;
 };
 
 static struct side ours = {.name = "ours", .step = viper_step, .run = viper_run,
-                           .back = viper_back};
-static struct side peer = {.name = "peer", .step = fast_step, .run = fast_run, .back = fast_back};
+                           .back = viper_back, .find = viper_find};
+static struct side peer = {.name = "peer", .step = fast_step, .run = fast_run,
+                           .back = fast_back, .find = fast_find};
 
 static void wrong(const struct side *side, const char *what)
 {
@@ -337,6 +341,97 @@ static void growth_table(void)
         if (i % 3 == 2)
             print_growth(i == 2 ? "steps" : "words", rows[i - 2].ours, rows[i].ours);
     }
+    printf("\n");
+    fflush(stdout);
+}
+
+/* ---- The search for a word ---- */
+
+/* A word of main that only the set by hand before the run changes, and a port that nothing does. */
+enum { SET_BY_HAND = 0x1F00, NEVER_HIT = 0xF0 };
+
+enum search { OLDEST, NEVER, SEARCHES };
+
+/* Nanoseconds a record walked, for each search. */
+struct search_row {
+    double ours[SEARCHES], peer[SEARCHES];
+};
+
+/* A trail on our board whose oldest record is a set's, with a routine's steps behind it. */
+static void make_trail(const struct routine *routine)
+{
+    struct board *b = &ours.board;
+    load(&ours, routine, 8192, 256);
+    if (viper_set(b->regs, b->main, b->main_length, b->ports, b->ports_length, b->trail,
+                  b->trail_length, &b->used, 0, SET_BY_HAND, 1) != 0)
+        wrong(&ours, "a set was refused");
+    forward_by_run(&ours, TABLE_STEPS);
+}
+
+/* Walks our board's trail from its end to its oldest record. */
+static void search(const struct side *side, enum search for_this)
+{
+    const struct board *b = &ours.board;
+    uint32_t record[8];
+    size_t back;
+    bool oldest = for_this == OLDEST;
+    uint32_t refused = side->find(b->main, b->main_length, b->ports, b->ports_length, b->trail,
+                                  b->trail_length, b->used, !oldest,
+                                  oldest ? SET_BY_HAND : NEVER_HIT, &back, record);
+    if (refused != 0 || back != (oldest ? TABLE_STEPS + 1 : 0))
+        wrong(side, "a search did not walk the whole trail");
+    if (oldest && (record[0] != VIPER_BY_SET || record[6] != SET_BY_HAND))
+        wrong(side, "a search gave another record");
+}
+
+static void measure_searches(const struct side *side, double least[SEARCHES])
+{
+    const int times = MOST_STEPS / TABLE_STEPS;
+    for (enum search s = OLDEST; s < SEARCHES; s++) {
+        double start = now();
+        for (int i = 0; i < times; i++)
+            search(side, s);
+        double cost = (now() - start) / times / (TABLE_STEPS + 1);
+        if (least[s] == 0 || cost < least[s])
+            least[s] = cost;
+    }
+}
+
+static void print_searches(const char *name, const struct search_row *row)
+{
+    printf("%-12s", name);
+    for (enum search s = OLDEST; s < SEARCHES; s++)
+        printf(" %5.2f (%6.1f, %6.1f)", row->peer[s] / row->ours[s], 1e3 / row->ours[s],
+               1e3 / row->peer[s]);
+    printf("\n");
+}
+
+static void measure_search_rows(struct search_row *rows)
+{
+    for (int round = 0; round < ROUNDS; round++)
+        for (int i = 0; i < ROUTINES; i++) {
+            make_trail(&routines[i]);
+            measure_searches(round % 2 ? &peer : &ours, round % 2 ? rows[i].peer : rows[i].ours);
+            measure_searches(round % 2 ? &ours : &peer, round % 2 ? rows[i].ours : rows[i].peer);
+        }
+}
+
+static void search_table(void)
+{
+    struct search_row rows[ROUTINES] = {{{0}, {0}}}, all = {{0}, {0}};
+    measure_search_rows(rows);
+    printf("search for a word in the trail of %d steps, the least time of %d rounds\n", TABLE_STEPS,
+           ROUNDS);
+    printf("speed of ours to the peer's; millions of records walked a second: ours, peer\n");
+    printf("%-12s %-22s %-22s\n", "routine", "oldest record", "never");
+    for (int i = 0; i < ROUTINES; i++) {
+        print_searches(routines[i].name, &rows[i]);
+        for (enum search s = OLDEST; s < SEARCHES; s++) {
+            all.ours[s] += rows[i].ours[s] / ROUTINES;
+            all.peer[s] += rows[i].peer[s] / ROUTINES;
+        }
+    }
+    print_searches("together", &all);
 }
 
 int main(int argc, char **argv)
@@ -347,5 +442,6 @@ int main(int argc, char **argv)
         printf("this machine emulates x86-64: a time says nothing, a ratio is a fair proxy\n");
     speed_table();
     growth_table();
+    search_table();
     return 0;
 }

@@ -10,7 +10,7 @@
 
 uint64_t call_ours(struct board *b, const struct call *call)
 {
-    switch (call->kind) {
+    switch (call->operation) {
     case STEP:
         return viper_step(b->regs, b->main, b->main_length, b->ports, b->ports_length, b->trail,
                           b->trail_length, &b->used);
@@ -42,7 +42,7 @@ static uint64_t answer_of_run(struct ran ran)
 static uint64_t ask_second(struct second *bench, const struct call *call)
 {
     bool port = call->store != 0;
-    switch (call->kind) {
+    switch (call->operation) {
     case STEP: return second_step(bench);
     case RUN: return answer_of_run(second_run(bench, call->budget));
     case RESET: return second_reset(bench);
@@ -71,7 +71,7 @@ uint64_t call_second(struct board *b, const struct call *call)
         .used = b->used,
     };
     uint64_t answer = ask_second(&bench, call);
-    if (call->kind == VIEW || refusal_in(call->kind, answer) != 0)
+    if (call->operation == VIEW || refusal_in(call->operation, answer) != 0)
         return answer;
     b->regs[VIPER_A] = bench.A;
     b->regs[VIPER_X] = bench.X;
@@ -83,35 +83,36 @@ uint64_t call_second(struct board *b, const struct call *call)
     return answer;
 }
 
-uint32_t refusal_in(enum kind kind, uint64_t answer)
+uint32_t refusal_in(enum operation operation, uint64_t answer)
 {
-    if (kind == VIEW)
+    if (operation == VIEW)
         return 0;
-    if (kind == RUN)
+    if (operation == RUN)
         return answer >> 32 >= 16 ? (answer >> 32) - 16 : 0;
     return answer;
 }
 
-bool may_refuse(enum kind kind, uint32_t refusal)
+bool may_refuse(enum operation operation, uint32_t refusal)
 {
     switch (refusal) {
     case 1:
-    case 3: return kind != VIEW;
-    case 2: return kind == STEP || kind == RUN || kind == SET || kind == BACK;
-    case 4: return kind == STEP;
-    case 5: return kind == STEP || kind == SET;
-    case 6: return kind == STEP || kind == RESET || kind == FORCE || kind == SET;
+    case 3: return operation != VIEW;
+    case 2: return operation == STEP || operation == RUN || operation == SET || operation == BACK;
+    case 4: return operation == STEP;
+    case 5: return operation == STEP || operation == SET;
+    case 6:
+        return operation == STEP || operation == RESET || operation == FORCE || operation == SET;
     case 7:
-    case 8: return kind == BACK;
+    case 8: return operation == BACK;
     default: return false;
     }
 }
 
-const char *kind_name(enum kind kind)
+const char *operation_name(enum operation operation)
 {
-    static const char *const names[KINDS] = {"step", "run",       "reset", "force",
-                                             "set",  "take back", "view"};
-    return names[kind];
+    static const char *const names[OPERATIONS] = {"step", "run",       "reset", "force",
+                                                  "set",  "take back", "view"};
+    return names[operation];
 }
 
 const char *ending_name(uint32_t ending)
@@ -123,24 +124,24 @@ const char *ending_name(uint32_t ending)
 void call_print(const struct call *call)
 {
     const char *store = call->store == 0 ? "main" : "port";
-    printf("%s", kind_name(call->kind));
-    if (call->kind == RUN)
+    printf("%s", operation_name(call->operation));
+    if (call->operation == RUN)
         printf(", budget %" PRIu32, call->budget);
-    if (call->kind == SET)
+    if (call->operation == SET)
         printf(", %s %05" PRIX32 " to %08" PRIX32, store, call->address, call->value);
-    if (call->kind == VIEW)
+    if (call->operation == VIEW)
         printf(", %s %05" PRIX32 ", %zu words", store, call->address, call->n);
     printf("\n");
 }
 
-void answer_print(enum kind kind, uint64_t answer)
+void answer_print(enum operation operation, uint64_t answer)
 {
-    uint32_t refusal = refusal_in(kind, answer);
-    if (kind == VIEW)
+    uint32_t refusal = refusal_in(operation, answer);
+    if (operation == VIEW)
         printf("%s (%" PRIu64 ")\n", answer ? "fitted" : "not fitted", answer);
     else if (refusal != 0)
         printf("refused %" PRIu32 " (answer %" PRIX64 ")\n", refusal, answer);
-    else if (kind == RUN)
+    else if (operation == RUN)
         printf("%" PRIu32 " steps, %s (answer %" PRIX64 ")\n", (uint32_t)answer,
                ending_name(answer >> 32), answer);
     else

@@ -9,10 +9,10 @@
 #include <stdbool.h>
 #include <stdint.h>
 
-enum kind { STEP, RUN, RESET, FORCE, SET, BACK, VIEW, KINDS };
+enum operation { STEP, RUN, RESET, FORCE, SET, BACK, VIEW, OPERATIONS };
 
 struct call {
-    enum kind kind;
+    enum operation operation;
     uint32_t budget;
     uint32_t store, address, value;
     size_t n;
@@ -23,14 +23,14 @@ uint64_t call_ours(struct board *board, const struct call *call);
 uint64_t call_second(struct board *board, const struct call *call);
 
 /* The refusal in an answer to such a call; 0 where it was accepted. */
-uint32_t refusal_in(enum kind kind, uint64_t answer);
+uint32_t refusal_in(enum operation operation, uint64_t answer);
 
 /* Whether document 01's table lets that call be refused with that number. */
-bool may_refuse(enum kind kind, uint32_t refusal);
+bool may_refuse(enum operation operation, uint32_t refusal);
 
-const char *kind_name(enum kind kind);
+const char *operation_name(enum operation operation);
 const char *ending_name(uint32_t ending);
 void call_print(const struct call *call);
-void answer_print(enum kind kind, uint64_t answer);
+void answer_print(enum operation operation, uint64_t answer);
 
 #endif

@@ -32,8 +32,8 @@ static uint64_t seed = DEFAULT_SEED;
 
 /* What was compared. */
 static uint64_t states;
-static uint64_t accepted[KINDS];
-static uint64_t refused[KINDS][REFUSALS];
+static uint64_t accepted[OPERATIONS];
+static uint64_t refused[OPERATIONS][REFUSALS];
 static uint64_t ended[ENDINGS];
 static uint64_t viewed[2];
 
@@ -72,26 +72,26 @@ static void fail_call(const struct pair *pair, const struct call *call, uint64_t
     printf("call: ");
     call_print(call);
     printf("ours:   ");
-    answer_print(call->kind, ours);
+    answer_print(call->operation, ours);
     printf("second: ");
-    answer_print(call->kind, second);
+    answer_print(call->operation, second);
     board_print_differences("ours", &pair->ours, "second", &pair->second);
     exit(1);
 }
 
 /* ---- One call of both ---- */
 
-static void count(enum kind kind, uint64_t answer)
+static void count(enum operation operation, uint64_t answer)
 {
-    uint32_t refusal = refusal_in(kind, answer);
+    uint32_t refusal = refusal_in(operation, answer);
     states++;
-    if (kind == VIEW)
+    if (operation == VIEW)
         viewed[answer != 0]++;
     if (refusal == 0)
-        accepted[kind]++;
+        accepted[operation]++;
     else if (refusal < REFUSALS)
-        refused[kind][refusal]++;
-    if (kind == RUN && refusal == 0 && answer >> 32 < ENDINGS)
+        refused[operation][refusal]++;
+    if (operation == RUN && refusal == 0 && answer >> 32 < ENDINGS)
         ended[answer >> 32]++;
 }
 
@@ -121,7 +121,7 @@ static uint64_t call_both(struct pair *pair, const struct call *call)
     uint64_t second = call_second(&pair->second, call);
     if (ours != second || !board_same(&pair->ours, &pair->second, pair->stores_each_call))
         fail_call(pair, call, ours, second);
-    count(call->kind, ours);
+    count(call->operation, ours);
     return ours;
 }
 
@@ -181,17 +181,17 @@ static size_t draw_stretch(size_t length)
     }
 }
 
-static enum kind draw_kind(void)
+static enum operation draw_operation(void)
 {
-    static const enum kind kinds[] = {STEP, STEP, STEP, STEP,  STEP,  STEP, RUN,  RUN,
-                                      SET,  SET,  SET,  RESET, FORCE, VIEW, BACK, BACK,
-                                      BACK, BACK, BACK, BACK,  BACK};
-    return kinds[draw_below(sizeof kinds / sizeof kinds[0])];
+    static const enum operation operations[] = {
+        STEP, STEP,  STEP,  STEP, STEP, STEP, RUN,  RUN,  SET,  SET, SET,
+        RESET, FORCE, VIEW, BACK, BACK, BACK, BACK, BACK, BACK, BACK};
+    return operations[draw_below(sizeof operations / sizeof operations[0])];
 }
 
-static struct call draw_call(const struct board *board, enum kind kind)
+static struct call draw_call(const struct board *board, enum operation operation)
 {
-    struct call call = {.kind = kind, .budget = draw_budget()};
+    struct call call = {.operation = operation, .budget = draw_budget()};
     call.store = draw_one_in(8) ? 0x100u << draw_below(24) : draw_below(2);
     size_t length = call.store == 0 ? board->main_length : board->ports_length;
     const uint32_t *words = call.store == 0 ? board->main : board->ports;
@@ -215,7 +215,7 @@ static void go_elsewhere(struct board *board)
 
 static void single_steps(uint64_t many)
 {
-    const struct call step = {.kind = STEP};
+    const struct call step = {.operation = STEP};
     struct pair pair = pair_with_room("single step", SINGLE_MAIN, SINGLE_PORTS, SINGLE_TRAIL);
     for (uint64_t i = 0; i < many; i++) {
         begin(&pair, 1, i);
@@ -224,7 +224,7 @@ static void single_steps(uint64_t many)
         call_both(&pair, &step);
         if (i % 4 == 0) {
             change_both(&pair, go_elsewhere);
-            struct call other = draw_call(&pair.ours, draw_below(KINDS));
+            struct call other = draw_call(&pair.ours, draw_below(OPERATIONS));
             call_both(&pair, &other);
         }
     }
@@ -235,7 +235,7 @@ static void single_steps(uint64_t many)
 
 static void records(uint64_t many)
 {
-    const struct call back = {.kind = BACK};
+    const struct call back = {.operation = BACK};
     struct pair pair = pair_with_room("record", SINGLE_MAIN, SINGLE_PORTS, RECORD_ROOM);
     for (uint64_t i = 0; i < many; i++) {
         enum fault fault = i % (2 * FAULTS) < FAULTS ? i % FAULTS : SOUND;
@@ -283,7 +283,7 @@ static void sequence(struct pair *pair, uint64_t number)
     start_sequence(&pair->ours);
     board_copy(&pair->second, &pair->ours);
     for (uint32_t calls = draw_between(4, 60); calls > 0; calls--) {
-        struct call call = draw_call(&pair->ours, draw_kind());
+        struct call call = draw_call(&pair->ours, draw_operation());
         if (draw_one_in(10))
             change_both(pair, tamper);
         if (draw_one_in(12))
@@ -304,18 +304,18 @@ static void sequences(uint64_t many)
 /* ---- Histories (demand 3) ---- */
 
 /* How many records a call that was so answered adds. */
-static int64_t listed_by(enum kind kind, uint64_t answer)
+static int64_t listed_by(enum operation operation, uint64_t answer)
 {
-    if (kind == VIEW || refusal_in(kind, answer) != 0)
+    if (operation == VIEW || refusal_in(operation, answer) != 0)
         return 0;
-    if (kind == RUN)
+    if (operation == RUN)
         return (uint32_t)answer;
-    return kind == BACK ? -1 : 1;
+    return operation == BACK ? -1 : 1;
 }
 
 static void take_back_everything(struct pair *pair, int64_t listed)
 {
-    const struct call back = {.kind = BACK};
+    const struct call back = {.operation = BACK};
     int64_t taken = 0;
     uint64_t answer = 0;
     for (; answer == 0; taken++)
@@ -338,8 +338,8 @@ static void history(struct pair *pair, struct board *start, uint64_t number)
     board_copy(&pair->second, &pair->ours);
     board_copy(start, &pair->ours);
     for (uint32_t calls = draw_between(1, 80); calls > 0; calls--) {
-        struct call call = draw_call(&pair->ours, draw_kind());
-        listed += listed_by(call.kind, call_both(pair, &call));
+        struct call call = draw_call(&pair->ours, draw_operation());
+        listed += listed_by(call.operation, call_both(pair, &call));
     }
     take_back_everything(pair, listed);
     board_copy(&pair->second, start);
@@ -376,12 +376,12 @@ static void put_any_record(struct board *board)
 
 static void large_call(struct pair *pair)
 {
-    struct call call = draw_call(&pair->ours, draw_kind());
+    struct call call = draw_call(&pair->ours, draw_operation());
     if (draw_one_in(8))
         change_both(pair, put_any_record);
     if (draw_one_in(2)) {
         change_both(pair, aim_any_step);
-        call.kind = STEP;
+        call.operation = STEP;
     }
     if (draw_one_in(16))
         call_unlawfully(pair, &call);
@@ -425,11 +425,11 @@ static void print_counts(void)
     for (int number = 1; number < REFUSALS; number++)
         printf("  refused %d", number);
     printf("\n");
-    for (enum kind kind = STEP; kind < KINDS; kind++) {
-        printf("%-10s %10" PRIu64, kind_name(kind), accepted[kind]);
+    for (enum operation operation = STEP; operation < OPERATIONS; operation++) {
+        printf("%-10s %10" PRIu64, operation_name(operation), accepted[operation]);
         for (uint32_t number = 1; number < REFUSALS; number++)
-            if (may_refuse(kind, number))
-                printf(" %10" PRIu64, refused[kind][number]);
+            if (may_refuse(operation, number))
+                printf(" %10" PRIu64, refused[operation][number]);
             else
                 printf(" %10s", "-");
         printf("\n");
@@ -445,10 +445,10 @@ static void print_counts(void)
 static bool all_seen(void)
 {
     bool all = viewed[0] > 0 && viewed[1] > 0;
-    for (int kind = STEP; kind < KINDS; kind++)
+    for (int operation = STEP; operation < OPERATIONS; operation++)
         for (uint32_t number = 1; number < REFUSALS; number++)
-            all = all && (!may_refuse(kind, number) || refused[kind][number] > 0);
-    for (int i = 0; i < KINDS; i++)
+            all = all && (!may_refuse(operation, number) || refused[operation][number] > 0);
+    for (int i = 0; i < OPERATIONS; i++)
         all = all && accepted[i] > 0;
     for (int i = 0; i < ENDINGS; i++)
         all = all && ended[i] > 0;

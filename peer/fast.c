@@ -1,6 +1,6 @@
 /* The benchmark's peer: a plain fast interpreter in C with the same trail. It follows document
  * 01's account of the instruction, with a switch over the fields and each record written
- * straight into the trail. */
+ * straight into the trail, and document 02 for a record's kind (W12) and the search (W7). */
 
 #include "fast.h"
 
@@ -10,7 +10,8 @@
 enum { NOT_FITTED = 5, NO_ROOM = 6, NOTHING_IN_USE = 7, BROKEN = 8, HALT = 100 };
 enum { STOPPED, BUDGET, UNFITTED, FULL };
 enum { MARK_A = 1, MARK_WORD = 8, MARK_B = 16, MARK_STOP = 32 };
-enum { TOP = 0x100000, LONGEST_STEP = 13 };
+enum { BY_STEP = 1, KINDS = 5 };
+enum { TOP = 0x100000, LONGEST_STEP = 14 };
 
 struct machine {
     uint32_t reg[4]; /* A, X, Y, and N while a step is done: the four sources by rsf */
@@ -53,6 +54,7 @@ static inline uint8_t *put_record(uint8_t *start, const struct machine *m, const
                                   bool changed)
 {
     uint8_t *at = start;
+    *at++ = BY_STEP;
     *at++ = (changed ? e->mark : 0) + (m->b ? MARK_B : 0);
     at = put(at, m->p);
     if (changed) {
@@ -328,6 +330,8 @@ uint64_t fast_run(uint32_t regs[6],
     return done + (ending << 32);
 }
 
+/* ---- Records read ---- */
+
 /* Reads a number below the limit and moves on, or answers false. */
 static inline bool get(const uint8_t **at, const uint8_t *end, uint64_t limit, uint32_t *number)
 {
@@ -363,15 +367,15 @@ uint32_t fast_back(uint32_t regs[6],
         return NOTHING_IN_USE;
     const uint8_t *end = trail + *used - 1;
     const size_t L = *end;
-    if (L < 2 || L > 27 || *used < L + 1)
+    if (L < 3 || L > 28 || *used < L + 1)
         return BROKEN;
-
     const struct stores s = {main, ports, (uint32_t)main_length, (uint32_t)ports_length};
     const uint8_t *at = end - L;
     uint32_t old[4] = {regs[0], regs[1], regs[2], 0};
-    uint32_t marks, place, value = 0;
+    uint32_t kind, marks, place, value = 0;
     uint32_t *word = NULL;
-    if (!get(&at, end, 64, &marks) || !get(&at, end, TOP, &old[3]))
+    if (!get(&at, end, KINDS, &kind) || !get(&at, end, 64, &marks) ||
+        !get(&at, end, TOP, &old[3]))
         return BROKEN;
     for (int i = 0; i < 3; i++)
         if (marks >> i & 1 && !get(&at, end, word_limit, &old[i]))
@@ -385,12 +389,74 @@ uint32_t fast_back(uint32_t regs[6],
     }
     if (at != end)
         return BROKEN;
-
     if (word != NULL)
         *word = value;
     memcpy(regs, old, sizeof old);
     regs[4] = (marks & MARK_B) != 0;
     regs[5] = (marks & MARK_STOP) != 0;
     *used -= L + 1;
+    return 0;
+}
+
+/* A record as a search answers it. */
+enum { KIND, MARKS, P, A, X, Y, PLACE, VALUE, NUMBERS };
+
+static inline bool fitted(size_t main_length, size_t ports_length, uint32_t place)
+{
+    return place < TOP ? place < main_length : place - TOP < ports_length;
+}
+
+/* Reads the newest record of so many bytes in use; what it does not mark stays. Answers its bytes
+ * with L, or 0 if it is broken. Take back reads for itself: its numbers then stay in registers,
+ * and it is half as fast again. */
+static inline size_t read_newest(const uint8_t *trail, size_t used, size_t main_length,
+                                 size_t ports_length, uint32_t record[NUMBERS])
+{
+    const uint64_t word_limit = (uint64_t)1 << 32;
+    const uint8_t *end = trail + used - 1;
+    const size_t L = *end;
+    if (L < 3 || L > 28 || used < L + 1)
+        return 0;
+    const uint8_t *at = end - L;
+    if (!get(&at, end, KINDS, &record[KIND]) || !get(&at, end, 64, &record[MARKS]) ||
+        !get(&at, end, TOP, &record[P]))
+        return 0;
+    const uint32_t marks = record[MARKS];
+    for (int i = 0; i < 3; i++)
+        if (marks >> i & 1 && !get(&at, end, word_limit, &record[A + i]))
+            return 0;
+    if (marks & MARK_WORD &&
+        (!get(&at, end, 2 * TOP, &record[PLACE]) || !get(&at, end, word_limit, &record[VALUE]) ||
+         !fitted(main_length, ports_length, record[PLACE])))
+        return 0;
+    return at == end ? L + 1 : 0;
+}
+
+uint32_t fast_find(const uint32_t *main, size_t main_length,
+                   const uint32_t *ports, size_t ports_length,
+                   const uint8_t *trail, size_t trail_length, size_t used,
+                   uint32_t store, uint32_t address,
+                   size_t *back, uint32_t record[8])
+{
+    const uint32_t none = 0xFFFFFFFF;
+    const uint32_t wanted = address >= TOP ? none : store == 0 ? address : TOP + address;
+    uint32_t walked[NUMBERS] = {0};
+    (void)main;
+    (void)ports;
+    *back = 0;
+    memset(record, 0, NUMBERS * sizeof *record);
+    if (used > trail_length)
+        return 3;
+    for (size_t count = 1; used > 0; count++) {
+        const size_t length = read_newest(trail, used, main_length, ports_length, walked);
+        if (length == 0)
+            return BROKEN;
+        if (walked[MARKS] & MARK_WORD && walked[PLACE] == wanted) {
+            *back = count;
+            read_newest(trail, used, main_length, ports_length, record);
+            return 0;
+        }
+        used -= length;
+    }
     return 0;
 }

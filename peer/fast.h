@@ -1,5 +1,5 @@
-/* The benchmark's peer: step, run and take back in plain fast C, with the arguments and the
- * answers of include/viper.h. */
+/* The benchmark's peer: step, run, take back and the search for a word in plain fast C, with the
+ * arguments and the answers of include/viper.h. */
 
 #ifndef FAST_H
 #define FAST_H
@@ -22,5 +22,11 @@ uint32_t fast_back(uint32_t regs[6],
                    uint32_t *main, size_t main_length,
                    uint32_t *ports, size_t ports_length,
                    const uint8_t *trail, size_t trail_length, size_t *used);
+
+uint32_t fast_find(const uint32_t *main, size_t main_length,
+                   const uint32_t *ports, size_t ports_length,
+                   const uint8_t *trail, size_t trail_length, size_t used,
+                   uint32_t store, uint32_t address,
+                   size_t *back, uint32_t record[8]);
 
 #endif

@@ -1,8 +1,10 @@
 /* The second program. Its first half is section 3 of the report (source document 004), page by
  * page and function by function; its second half is document 01's rules around it: refusals,
- * records, run, take back, view. */
+ * records (with document 02's kind, W12), run, take back, view. */
 
 #include "second.h"
+
+#include "second_record.h"
 
 #include <string.h>
 
@@ -63,8 +65,6 @@ typedef struct {
     word32 word;
     bool *unfitted;
 } mem21_32;
-
-#define PORTS_FROM 0x100000u
 
 /* The word at a place, or nothing where it is not fitted. */
 static uint32_t *word_at(const struct second *bench, word21 place)
@@ -389,9 +389,7 @@ static state NEXT(mem21_32 ram, word20 p, word32 a, word32 x, word32 y, bool b, 
     return (state){ram, target, a, x, y, aluout.BVAL, aluout.SVAL};
 }
 
-/* ---- The trail (document 01, "The trail") ---- */
-
-enum { MARK_A = 1, MARK_X = 2, MARK_Y = 4, MARK_WORD = 8, MARK_B = 16, MARK_STOP = 32 };
+/* ---- The trail (document 01, "The trail"; document 02, W12) ---- */
 
 struct record {
     uint8_t bytes[28];
@@ -406,8 +404,8 @@ static void put_number(struct record *record, uint32_t number)
     record->bytes[record->length++] = number;
 }
 
-/* The record that takes after back to before. */
-static struct record record_of(const state *before, const state *after)
+/* The record of that kind that takes after back to before. */
+static struct record record_of(uint32_t kind, const state *before, const state *after)
 {
     struct record record = {.length = 0};
     bool a = before->a != after->a;
@@ -417,6 +415,7 @@ static struct record record_of(const state *before, const state *after)
     word32 old = after->ram.stored ? FETCH21(before->ram, place) : 0;
     bool word = after->ram.stored && old != after->ram.word;
 
+    put_number(&record, kind);
     put_number(&record, a * MARK_A + x * MARK_X + y * MARK_Y + word * MARK_WORD +
                             before->b * MARK_B + before->stop * MARK_STOP);
     put_number(&record, before->p);
@@ -471,11 +470,12 @@ static void become(struct second *bench, const state *after)
 }
 
 /* Accepts the operation from before to after, with its record, or answers 5 or 6. */
-static uint32_t operate(struct second *bench, const state *before, const state *after)
+static uint32_t operate(struct second *bench, uint32_t kind, const state *before,
+                        const state *after)
 {
     if (*before->ram.unfitted)
         return 5;
-    struct record record = record_of(before, after);
+    struct record record = record_of(kind, before, after);
     if (record.length > bench->trail_length - bench->used)
         return 6;
     memcpy(bench->trail + bench->used, record.bytes, record.length);
@@ -494,7 +494,7 @@ uint32_t second_step(struct second *bench)
     bool unfitted = false;
     state s = state_of(bench, &unfitted);
     state after = NEXT(s.ram, s.p, s.a, s.x, s.y, s.b, s.stop);
-    return operate(bench, &s, &after);
+    return operate(bench, BY_STEP, &s, &after);
 }
 
 struct ran second_run(struct second *bench, uint32_t budget)
@@ -523,7 +523,7 @@ uint32_t second_reset(struct second *bench)
     bool unfitted = false;
     state before = state_of(bench, &unfitted);
     state after = {before.ram, 0, 0, 0, 0, false, false};
-    return operate(bench, &before, &after);
+    return operate(bench, BY_RESET, &before, &after);
 }
 
 uint32_t second_force(struct second *bench)
@@ -535,7 +535,7 @@ uint32_t second_force(struct second *bench)
     state before = state_of(bench, &unfitted);
     state after = before;
     after.stop = true;
-    return operate(bench, &before, &after);
+    return operate(bench, BY_FORCE, &before, &after);
 }
 
 uint32_t second_set(struct second *bench, bool port, uint32_t address, uint32_t value)
@@ -549,59 +549,27 @@ uint32_t second_set(struct second *bench, bool port, uint32_t address, uint32_t 
     state before = state_of(bench, &unfitted);
     state after = before;
     after.ram = STORE21(WORD(21, CONS(port, 20, address)), value, before.ram);
-    return operate(bench, &before, &after);
+    return operate(bench, BY_SET, &before, &after);
 }
 
 /* ---- Take back ---- */
 
-/* The bytes before L, read from the first on. */
-struct reading {
-    const uint8_t *bytes;
-    size_t length, at;
-    bool broken;
-};
-
-/* The next number. It breaks the reading if it is not below the limit, runs past the end or
- * has a group too many. Below 2^32 there are at most five groups. */
-static uint32_t next_number(struct reading *reading, uint64_t limit)
+/* The state that a record goes back to. */
+static state state_before(const state *now, const struct second_record *record)
 {
-    uint64_t number = 0;
-    uint8_t byte = 128;
-    int group = 0;
-    for (; byte >= 128 && group < 5 && reading->at < reading->length; group++) {
-        byte = reading->bytes[reading->at++];
-        number += (uint64_t)(byte % 128) << (7 * group);
-    }
-    bool unended = byte >= 128;
-    bool group_too_many = group > 1 && byte == 0;
-    if (unended || group_too_many || number >= limit) {
-        reading->broken = true;
-        return 0;
-    }
-    return number;
-}
-
-enum { BELOW_64 = 64, BELOW_2_20 = 0x100000, BELOW_2_21 = 0x200000 };
-#define BELOW_2_32 0x100000000u
-
-/* Reads marks, P, the marked registers and the marked word into the state to go back to. */
-static void read_record(struct reading *reading, state *old)
-{
-    uint32_t marks = next_number(reading, BELOW_64);
-    old->b = marks & MARK_B;
-    old->stop = marks & MARK_STOP;
-    old->p = next_number(reading, BELOW_2_20);
-    if (marks & MARK_A)
-        old->a = next_number(reading, BELOW_2_32);
-    if (marks & MARK_X)
-        old->x = next_number(reading, BELOW_2_32);
-    if (marks & MARK_Y)
-        old->y = next_number(reading, BELOW_2_32);
-    if (marks & MARK_WORD) {
-        word21 place = next_number(reading, BELOW_2_21);
-        word32 value = next_number(reading, BELOW_2_32);
-        old->ram = STORE21(place, value, old->ram);
-    }
+    state old = *now;
+    old.b = record->marks & MARK_B;
+    old.stop = record->marks & MARK_STOP;
+    old.p = record->P;
+    if (record->marks & MARK_A)
+        old.a = record->A;
+    if (record->marks & MARK_X)
+        old.x = record->X;
+    if (record->marks & MARK_Y)
+        old.y = record->Y;
+    if (record->marks & MARK_WORD)
+        old.ram = STORE21(record->place, record->value, old.ram);
+    return old;
 }
 
 uint32_t second_back(struct second *bench)
@@ -611,18 +579,16 @@ uint32_t second_back(struct second *bench)
         return refusal;
     if (bench->used == 0)
         return 7;
-    uint8_t L = bench->trail[bench->used - 1];
-    if (L < 2 || L > 27 || bench->used < (size_t)L + 1)
+    struct second_record record;
+    if (!second_read_newest(NEW_FORM, bench->trail, bench->used, &record))
         return 8;
-
-    struct reading reading = {bench->trail + bench->used - 1 - L, L, 0, false};
     bool unfitted = false;
-    state old = state_of(bench, &unfitted);
-    read_record(&reading, &old);
-    if (reading.broken || reading.at != reading.length || unfitted)
+    state now = state_of(bench, &unfitted);
+    state old = state_before(&now, &record);
+    if (unfitted)
         return 8;
     become(bench, &old);
-    bench->used -= (size_t)L + 1;
+    bench->used -= record.length;
     return 0;
 }
 

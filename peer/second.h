@@ -1,5 +1,6 @@
 /* The second program: a bench written from the text of the report (source document 004,
- * RSRE Report 90009) and from document 01, and from nothing else, to be compared with ours. */
+ * RSRE Report 90009) and from documents 01 and 02, and from nothing else, to be compared with
+ * ours. */
 
 #ifndef SECOND_H
 #define SECOND_H

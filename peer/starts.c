@@ -180,7 +180,7 @@ void start_history(struct board *board)
 {
     static const size_t mains[] = {0, 4, 16, 40, 40, 200, SEQUENCE_MAIN};
     static const size_t ports[] = {0, 3, 16, SEQUENCE_PORTS};
-    static const size_t trails[] = {3, 12, 40, 200, 1000, 4000, SEQUENCE_TRAIL};
+    static const size_t trails[] = {4, 14, 40, 200, 1000, 4000, SEQUENCE_TRAIL};
     board->main_length = draw_length(mains, sizeof mains / sizeof mains[0]);
     board->ports_length = draw_length(ports, sizeof ports / sizeof ports[0]);
     board->trail_length = draw_length(trails, sizeof trails / sizeof trails[0]);
@@ -232,7 +232,7 @@ static void tamper_trail(struct board *board)
     if (draw_one_in(2))
         board->trail[at] ^= 1u << draw_below(8);
     else
-        board->trail[at] = draw_one_in(2) ? draw() : draw_below(28);
+        board->trail[at] = draw_one_in(2) ? draw() : draw_below(30);
 }
 
 static void tamper_words(struct board *board)

@@ -1,67 +1,37 @@
-/* Standard inputs for the program `bench`, good and damaged, one file each (document 01, "The
- * counter program"). What `bench` must print for them, second_bench says.
+/* Standard inputs for the programs `bench` and `list`: routines, good and damaged, one file each
+ * (document 01, "The counter program"). What must be printed for them, second_bench and second_list
+ * say; `who` is asked about them by who_inputs.
  *
- * bench_inputs FOLDER [seed] writes FOLDER/NAME.in */
+ * routine_inputs FOLDER [seed] writes FOLDER/NAME.in */
 
 #include "draw.h"
+#include "input.h"
 
-#include <inttypes.h>
 #include <stdio.h>
 #include <stdlib.h>
 #include <string.h>
 
-enum { LINES = 8192, PORTS = 256, LINE = 9, ROOM = 200000 };
+enum { LINES = 8192, PORTS = 256 };
 
 static const char *folder;
 
-/* A text under work. */
-static char text[ROOM];
-static size_t length;
-
-static void save(const char *name, unsigned number)
-{
-    char path[4096];
-    snprintf(path, sizeof path, "%s/%s-%03u.in", folder, name, number);
-    FILE *file = fopen(path, "wb");
-    if (file == NULL || fwrite(text, 1, length, file) != length || fclose(file) != 0) {
-        fprintf(stderr, "bench_inputs: cannot write %s\n", path);
-        exit(2);
-    }
-}
+/* The input under work. */
+static struct input input;
 
 static void clear(void)
 {
-    length = 0;
+    input.length = 0;
 }
 
-static void add(const char *bytes, size_t count)
+static void save(const char *name, unsigned number)
 {
-    memcpy(text + length, bytes, count);
-    length += count;
-}
-
-static void add_text(const char *more)
-{
-    add(more, strlen(more));
-}
-
-static void add_word(uint32_t word)
-{
-    char line[LINE + 1];
-    snprintf(line, sizeof line, "%08" PRIX32 "\n", word);
-    add(line, LINE);
-}
-
-static void add_words(const uint32_t *words, size_t count)
-{
-    for (size_t i = 0; i < count; i++)
-        add_word(words[i]);
+    save_input(&input, folder, name, number);
 }
 
 static void add_routine(size_t lines)
 {
     for (size_t i = 0; i < lines; i++)
-        add_word(draw_instruction(lines, LINES, PORTS));
+        add_word(&input, draw_instruction(lines, LINES, PORTS));
 }
 
 /* ---- Good inputs ---- */
@@ -84,13 +54,17 @@ static const struct {
      {0x02300100, 0x42400001, 0x6E000000, 0x41002000, 0x08300001, 0x00D00000},
      6},
     {"calls", {0x06100003, 0x06100003, 0x06300000, 0x00400005, 0x86500000}, 5},
+    {"names",
+     {0x00300005, 0x1E00000A, 0x01200005, 0x7050000A, 0x01A00005, 0x40C00000, 0x06100100,
+      0x10200005, 0x70400005, 0x00D00000},
+     10},
 };
 
 static void save_worked(void)
 {
     for (unsigned i = 0; i < sizeof worked / sizeof worked[0]; i++) {
         clear();
-        add_words(worked[i].words, worked[i].count);
+        add_words(&input, worked[i].words, worked[i].count);
         save(worked[i].name, 1);
     }
 }
@@ -104,17 +78,29 @@ static void save_routines(unsigned many)
     }
 }
 
+/* Routines that write into themselves and into four ports, over and over. */
+static void save_busy(unsigned many)
+{
+    for (unsigned i = 0; i < many; i++) {
+        clear();
+        size_t lines = draw_between(4, 24);
+        for (size_t at = 0; at < lines; at++)
+            add_word(&input, draw_instruction(lines, lines, 4));
+        save("busy", i);
+    }
+}
+
 /* The longest records that fit `bench`: two words take turns in the last port. */
 static void save_longest_records(void)
 {
     clear();
-    add_word(0x00000000);
-    add_word(0x02000001);
-    add_word(0x06300080);
+    add_word(&input, 0x00000000);
+    add_word(&input, 0x02000001);
+    add_word(&input, 0x06300080);
     for (int at = 3; at < 0x80; at++)
-        add_word(0);
+        add_word(&input, 0);
     for (int i = 0; i < 300; i++)
-        add_word(i % 2 ? 0x1C0000FF : 0x5C0000FF);
+        add_word(&input, i % 2 ? 0x1C0000FF : 0x5C0000FF);
     save("longest-records", 1);
 }
 
@@ -124,7 +110,7 @@ static void save_words(unsigned many)
     for (unsigned i = 0; i < many; i++) {
         clear();
         for (uint32_t lines = draw_between(1, 20); lines > 0; lines--)
-            add_word(draw_one_in(2) ? draw() : draw_word());
+            add_word(&input, draw_one_in(2) ? draw() : draw_word());
         save("words", i);
     }
 }
@@ -141,7 +127,7 @@ static void save_lengths(void)
     }
     clear();
     for (unsigned i = 0; i < LINES; i++)
-        add_word(0x00300000 + i);
+        add_word(&input, 0x00300000 + i);
     save("straight-on", LINES);
 }
 
@@ -191,9 +177,9 @@ static void save_bad_lines(void)
         for (unsigned j = 0; j < 6; j++) {
             clear();
             add_routine(before[j / 2]);
-            add_text(lines[i].line);
+            add_text(&input, lines[i].line);
             if (j % 2)
-                add_word(0x00300005);
+                add_word(&input, 0x00300005);
             if (j < 4 || i % 8 == 0)
                 save(lines[i].name, j);
         }
@@ -205,10 +191,10 @@ static void save_bad_bytes(void)
 {
     for (unsigned i = 0; i < LINE * 6; i++) {
         clear();
-        add_word(0x00300005);
-        add_word(0x1E00000A);
-        add_word(0x01200005);
-        text[LINE + i % LINE] = i < LINE ? '\0' : (char)draw();
+        add_word(&input, 0x00300005);
+        add_word(&input, 0x1E00000A);
+        add_word(&input, 0x01200005);
+        input.text[LINE + i % LINE] = i < LINE ? '\0' : (char)draw();
         save("byte", i);
     }
 }
@@ -218,11 +204,11 @@ static void save_very_long(void)
     for (unsigned i = 0; i < 4; i++) {
         clear();
         add_routine(i % 2 ? 2 : 0);
-        memset(text + length, i < 2 ? '0' : 'a', 100000);
-        length += 100000;
+        memset(input.text + input.length, i < 2 ? '0' : 'a', 100000);
+        input.length += 100000;
         if (i != 1)
-            add_text("\n");
-        add_word(0x00300005);
+            add_text(&input, "\n");
+        add_word(&input, 0x00300005);
         save("very-long", i);
     }
 }
@@ -232,31 +218,36 @@ static void save_two_bad(void)
 {
     clear();
     add_routine(4);
-    add_text("xyz\n");
+    add_text(&input, "xyz\n");
     add_routine(LINES);
-    add_text("0");
+    add_text(&input, "0");
     save("two-bad", 1);
     clear();
     add_routine(LINES - 1);
-    add_text("00300005");
+    add_text(&input, "00300005");
     save("last-line-open", LINES);
 }
 
-/* A good routine with one byte changed, put in or left out. */
+/* One byte changed, put in or left out. */
+static void damage(size_t at, unsigned how)
+{
+    char *byte = input.text + at;
+    switch (how) {
+    case 0: *byte = (char)draw(); break;
+    case 1:
+        memmove(byte + 1, byte, input.length++ - at);
+        *byte = draw_one_in(2) ? '0' : '\n';
+        break;
+    default: memmove(byte, byte + 1, --input.length - at); break;
+    }
+}
+
 static void save_damaged(unsigned many)
 {
     for (unsigned i = 0; i < many; i++) {
         clear();
         add_routine(draw_between(1, 40));
-        size_t at = draw_below((uint32_t)length);
-        switch (i % 3) {
-        case 0: text[at] = (char)draw(); break;
-        case 1:
-            memmove(text + at + 1, text + at, length++ - at);
-            text[at] = draw_one_in(2) ? '0' : '\n';
-            break;
-        default: memmove(text + at, text + at + 1, --length - at); break;
-        }
+        damage(draw_below((uint32_t)input.length), i % 3);
         save("damaged", i);
     }
 }
@@ -264,7 +255,7 @@ static void save_damaged(unsigned many)
 int main(int argc, char **argv)
 {
     if (argc < 2) {
-        fprintf(stderr, "usage: bench_inputs FOLDER [seed]\n");
+        fprintf(stderr, "usage: routine_inputs FOLDER [seed]\n");
         return 2;
     }
     folder = argv[1];
@@ -279,5 +270,6 @@ int main(int argc, char **argv)
     save_very_long();
     save_two_bad();
     save_damaged(45);
+    save_busy(80);
     return 0;
 }
