@@ -7,7 +7,7 @@ use machine::{MainAddress, Place, PortNumber};
 use text::stands_at;
 
 // The place asked for.
-#[derive(Drop)]
+#[derive(Clone, Copy)]
 pub enum Asked {
     Word(Place),
     IllFormed,

@@ -1,5 +1,6 @@
 // bench, the counter program (document 01, "The counter program"): it runs a routine from standard input, tells what came of it,
 // takes every step back, and tells that too.
+#![tactic(auto)]
 use counter::Loaded;
 use libc::{STDIN_FILENO, STDOUT_FILENO};
 use machine::Machine;
@@ -48,7 +49,7 @@ fn run_and_take_back(main: &mut [u32], ports: &mut [u32], trail: &mut [u8]) {
 }
 
 // What taking back until it is refused leaves: the machine, the bytes in use, and how many records were taken back.
-#[derive(Drop)]
+#[derive(Clone, Copy)]
 struct Taken {
     machine: Machine,
     used: usize,

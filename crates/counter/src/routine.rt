@@ -5,14 +5,14 @@ ghost use Rattle.counter.specs.Routine.{line_after, routine_of, answer, main_aft
 use text::digit_value;
 
 // What a line holds.
-#[derive(Drop)]
+#[derive(Clone, Copy)]
 pub enum Line {
     Word(u32),
     IllFormed,
 }
 
 // What loading answers: how many words main now holds from address 0 on, or which line, from 1, is the first bad one.
-#[derive(Drop)]
+#[derive(Clone, Copy)]
 pub enum Loaded {
     Words(usize),
     BadLine(usize),

@@ -1,7 +1,7 @@
 -- What the code decides by a word's class is the part of document 01's order: one test, computed over the 1,024 classes and the flags.
 -- Assumes nothing.
 use Rattle.std.proofs.Common.{◌≡◌, ℕ, ◌/◌, ◌%◌, ◌^◌, ◌<◌, Bool, false, cond, not, ◌&&◌, ◌||◌, T, eqb, leb, sym, refl, ap, ◌∙◌, arith, eqb→eq}
-use Rattle.report.specs.Parts.{Part, stopped, halts, compares, writes, skips, computes, part_by, msf, dsf, csf, fsf, of, top, bad, comparison, write, shift, skip, always_halts}
+use Rattle.report.specs.Parts.{Part, stopped, halts, compares, writes, skips, computes, part_by, msf, dsf, csf, fsf, top, bad, comparison, write, shift, skip, always_halts}
 use Rattle.report.proofs.Finite.{below, flags, flag}
 use Rattle.instruction.specs.Classes.{class_by, class_of_word}
 

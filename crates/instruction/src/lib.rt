@@ -1,4 +1,6 @@
 // An instruction word taken apart: its fields, its class, the register source and the address (report, tables 1 to 4; document 01).
+#![tactic(auto)]
+
 mod class;
 
 ghost use Rattle.std.specs.Prelude.{◌≡◌, ◌^◌, ◌<◌, slice_index};
@@ -8,7 +10,7 @@ ghost use Rattle.instruction.specs.Sources.{register_of, address_of};
 pub use class::{class_of, class_table};
 
 // The fields of a word (table 1). csf stands in its class.
-#[derive(Drop)]
+#[derive(Clone, Copy)]
 pub struct Fields {
     pub rsf: u32,
     pub msf: u32,

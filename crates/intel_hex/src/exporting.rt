@@ -9,7 +9,7 @@ use crate::{KIB_64, MOST};
 use text::{digit_of, put_byte};
 
 // What an export answers: how many bytes it wrote, refusal 2 or refusal 9.
-#[derive(Drop)]
+#[derive(Clone, Copy)]
 pub enum Exported {
     Written(usize),
     MainTooLong,

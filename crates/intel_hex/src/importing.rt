@@ -8,7 +8,7 @@ use crate::MOST;
 use crate::lines::{Line, Span, byte_at, layout_at, line_at, size_at};
 
 // How a text goes on after a line: with the start of the 64 KiB that count from there, at its end, or not.
-#[derive(Drop)]
+#[derive(Clone, Copy)]
 pub enum Turn {
     On(usize),
     Ended,
@@ -16,14 +16,14 @@ pub enum Turn {
 }
 
 // Whether a text is good, or its first bad line from 1.
-#[derive(Drop)]
+#[derive(Clone, Copy)]
 pub enum Verdict {
     Good,
     BadLine(usize),
 }
 
 // What an import answers: refusal 2, or refusal 12 with the first bad line from 1.
-#[derive(Drop)]
+#[derive(Clone, Copy)]
 pub enum Imported {
     Accepted,
     MainTooLong,
@@ -31,7 +31,7 @@ pub enum Imported {
 }
 
 // The answer, and the bytes of the trail in use after it.
-#[derive(Drop)]
+#[derive(Clone, Copy)]
 pub struct Import {
     pub answer: Imported,
     pub used: usize,

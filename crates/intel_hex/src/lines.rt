@@ -7,14 +7,14 @@ use crate::KIB_64;
 use text::digit_value;
 
 // The words of a data record, from the start of its 64 KiB.
-#[derive(Drop)]
+#[derive(Clone, Copy)]
 pub struct Span {
     pub first: usize,
     pub words: usize,
 }
 
 // What a line holds. `Upper` has the start of the 64 KiB that count from there, in words.
-#[derive(Drop)]
+#[derive(Clone, Copy)]
 pub enum Line {
     Data(Span),
     Upper(usize),

@@ -6,7 +6,7 @@ ghost use Rattle.language.specs.Line.{ignoring, function_form, form};
 use instruction::Fields;
 
 // Which fields a word has. A unary function is one of M alone, a binary one of R and M.
-#[derive(Drop)]
+#[derive(Clone, Copy)]
 pub enum Form {
     Word,
     Comparison,

@@ -3,7 +3,7 @@ ghost use Rattle.std.specs.Prelude.{[]};
 ghost use Rattle.language.specs.Names.{Named, destination_name, function_name, shift_name, comparison_name, register_name};
 
 // A name: how many bytes it has, and these at the start of four.
-#[derive(Drop)]
+#[derive(Clone, Copy)]
 pub struct Name(pub usize, pub [u8; 4]);
 
 fn unnamed() -> Name

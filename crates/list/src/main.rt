@@ -1,4 +1,5 @@
 // list, the listing program (document 02, W1): it reads a routine from standard input as bench does, and prints its words' listing.
+#![tactic(auto)]
 use counter::Loaded;
 use libc::{STDIN_FILENO, STDOUT_FILENO};
 use listing::Listed;

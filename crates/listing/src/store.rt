@@ -8,7 +8,7 @@ ghost use Rattle.listing.specs.Listing.{listing, Lists};
 use crate::line::put_line;
 
 // What a call answers: how many bytes the listing has, or why it was refused (2 and 9; `number` in specs/Listing.antt).
-#[derive(Drop)]
+#[derive(Clone, Copy)]
 pub enum Listed {
     Bytes(usize),
     StoreTooLong,

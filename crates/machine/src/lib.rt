@@ -1,22 +1,23 @@
 // The types that the whole bench shares (document 01, "What the bench holds").
+#![tactic(auto)]
 
 // The address of a word of the main store.
-#[derive(Drop)]
+#[derive(Clone, Copy)]
 pub struct MainAddress(pub u32);
 
 // The number of a port.
-#[derive(Drop)]
+#[derive(Clone, Copy)]
 pub struct PortNumber(pub u32);
 
 // Where a word stands. A main address and a port number are kept apart, so that a port is never read at a main address.
-#[derive(Drop)]
+#[derive(Clone, Copy)]
 pub enum Place {
     Main(MainAddress),
     Port(PortNumber),
 }
 
 // The machine without its stores: A, X, Y, P and the flags B and STOP.
-#[derive(Drop)]
+#[derive(Clone, Copy)]
 pub struct Machine {
     pub a: u32,
     pub x: u32,
@@ -27,7 +28,7 @@ pub struct Machine {
 }
 
 // How a run that was not refused ended (document 01, "Numbers the counter sees").
-#[derive(Drop)]
+#[derive(Clone, Copy)]
 pub enum Ending {
     Stopped,
     Budget,

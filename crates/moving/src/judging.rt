@@ -14,21 +14,21 @@ const LENGTHS: u64 = 28;
 const SHORTEST: usize = 2;
 
 // Where the newest record begins, or it is broken.
-#[derive(Drop)]
+#[derive(Clone, Copy)]
 pub(crate) enum Start {
     At(usize),
     Broken,
 }
 
 // How many records there are, or one is broken.
-#[derive(Drop)]
+#[derive(Clone, Copy)]
 pub(crate) enum Count {
     Records(usize),
     Broken,
 }
 
 // How many bytes the moved trail has, or the output is too short.
-#[derive(Drop)]
+#[derive(Clone, Copy)]
 pub(crate) enum Room {
     Bytes(usize),
     Short,

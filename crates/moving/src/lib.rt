@@ -1,4 +1,5 @@
 // Whole trails moved from the old form of records to the new one, where each begins with its kind, and back (document 02, W12).
+#![tactic(auto)]
 mod judging;
 mod writing;
 
@@ -10,7 +11,7 @@ use crate::writing::write;
 
 // What became of a move: the count of bytes written, which is the moved trail's count in use; or refused and nothing written: a record is
 // broken (8), or the output is too short (9).
-#[derive(Drop)]
+#[derive(Clone, Copy)]
 pub enum Moved {
     Bytes(usize),
     Broken,

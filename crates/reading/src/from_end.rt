@@ -24,7 +24,7 @@ const PLACES: u64 = 2_097_152;
 const WORDS: u64 = 4_294_967_296;
 
 // What reading a number of a record finds: its value, and the place after it, which is past the record's end if it is broken.
-#[derive(Drop)]
+#[derive(Clone, Copy)]
 struct Found {
     pub n: u32,
     pub next: usize,

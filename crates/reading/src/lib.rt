@@ -1,4 +1,6 @@
 // The trail read back from the end of the bytes in use (document 01, "The trail"). No trail byte is written here.
+#![tactic(auto)]
+
 mod from_end;
 mod numbers;
 mod reader;

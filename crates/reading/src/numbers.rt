@@ -5,7 +5,7 @@ ghost use Rattle.trail.specs.Numbers.{over, below, read_below, read_in};
 ghost use Rattle.reading.specs.Finding.{number_of};
 
 // What reading a number finds: its value and the place after it, or that it is broken.
-#[derive(Drop)]
+#[derive(Clone, Copy)]
 pub enum Number {
     Got(u32, usize),
     Broken,

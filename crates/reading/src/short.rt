@@ -16,7 +16,7 @@ const GROUP: u64 = 128;
 
 // What a record so short marks beside the flags: nothing, A, X or Y; its old values, and the count of bytes in use once it is gone.
 // Or it is broken, or it is not so short.
-#[derive(Drop)]
+#[derive(Clone, Copy)]
 pub enum ShortRecord {
     Kept(OldValues, usize),
     A(OldValues, usize),
@@ -80,7 +80,7 @@ fn wide_p(kind: u32, marks: u32, trail: &[u8], end: usize) -> ShortRecord
 }
 
 // Two numbers of one byte each, or one of them is broken.
-#[derive(Drop)]
+#[derive(Clone, Copy)]
 enum Pair {
     Got(u32, u32),
     Broken,

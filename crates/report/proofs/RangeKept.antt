@@ -9,7 +9,7 @@ use lib.ListN.{get_or, set}
 use lib.Bits.{and_lt, xor_lt}
 use Rattle.report.specs.AnnexA.{Mem}
 use Rattle.report.specs.Section3.{State, Triple, NEXT}
-use Rattle.report.specs.Parts.{Where, with_word, rsf, msf, dsf, fsf, source, top_bit, shifted, computed, to_p, of, shift, input, output, Part, stopped, halts, compares, writes, skips, computes, part, word, after_by, after, placed, place_by, operand, InRange}
+use Rattle.report.specs.Parts.{Where, with_word, rsf, msf, dsf, fsf, source, top_bit, shifted, computed, to_p, of, shift, input, output, Part, stopped, halts, compares, writes, skips, computes, part, word, after_by, placed, place_by, operand, InRange}
 use Rattle.report.proofs.Bits.{bit_small}
 use Rattle.report.proofs.Order.{next_by_parts, source_lt, operand_lt}
 

@@ -1,7 +1,7 @@
 -- Document 01, "Cases on each side": the thirteen starred cases, each the state before a step and the state after it.
 -- The word stands at P; registers and flags not named start at 0 and stay; P becomes N where no other P is named.
 -- Assumes nothing.
-use Rattle.std.specs.Prelude.{ℕ, ◌+◌, Bool, List, [], ◌∷◌, replicate, set}
+use Rattle.std.specs.Prelude.{ℕ, Bool, List, [], ◌∷◌, replicate, set}
 use Rattle.report.specs.AnnexA.{Mem, T, F}
 use Rattle.report.specs.Section3.{State}
 

@@ -1,4 +1,5 @@
 // Which operation hit this word (document 02, W7): the newest record that holds a place, and how many operations back it is. Nothing is written here.
+#![tactic(auto)]
 ghost use Rattle.std.specs.Prelude.{◌≡◌};
 ghost use Rattle.seeking.specs.Seeking.{names as names_of, holds as holds_of, sought};
 
@@ -8,7 +9,7 @@ use trail::{FIRST_PORT, Newest, OldValues};
 
 // What was found: how many operations back, the newest record being 1, and the record's old values; no record holds the place; or refused: the count
 // in use is larger than the trail (3), or a record is broken before any that holds the place (8).
-#[derive(Drop)]
+#[derive(Clone, Copy)]
 pub enum Sought {
     Found(usize, OldValues),
     Never,

@@ -13,7 +13,7 @@ use machine::Place;
 use trail::{Added, Word};
 
 // What became of a step: P, B and STOP and the count of bytes in use after it, or why it was not done.
-#[derive(Drop)]
+#[derive(Clone, Copy)]
 pub enum Stepped {
     Done(u32, bool, bool, usize),
     Unfitted,

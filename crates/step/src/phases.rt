@@ -17,14 +17,14 @@ use instruction::Fields;
 use machine::{MainAddress, Place, PortNumber};
 
 // The word at P.
-#[derive(Drop)]
+#[derive(Clone, Copy)]
 pub enum Fetched {
     Word(u32),
     Unfitted,
 }
 
 // M, or why there is none: a bad address halts, and a word that is not fitted refuses the step.
-#[derive(Drop)]
+#[derive(Clone, Copy)]
 pub enum Operand {
     Held(u32),
     Bad,
@@ -98,7 +98,7 @@ fn place_of(class: u8, at: u32) -> Place
 }
 
 // A result for a register: which one (0, 1 or 2 for A, X or Y), its value, and P, B and STOP after it.
-#[derive(Drop)]
+#[derive(Clone, Copy)]
 struct Delivery {
     to: u32,
     value: u32,

@@ -1,4 +1,6 @@
 // Text in bytes: fixed texts and numbers put at a place of a buffer, digits read, and a fixed text compared with the bytes at a place.
+#![tactic(auto)]
+
 mod put;
 mod read;
 

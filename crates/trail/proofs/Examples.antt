@@ -7,7 +7,7 @@ use Rattle.trail.specs.declared.OldValues.{OldValues}
 use Rattle.trail.specs.declared.Newest.TheVariants.{Record, Broken}
 use Rattle.trail.specs.Numbers.{groups_in, groups, broken, read_in}
 use Rattle.trail.specs.Records.{record_bytes, record_in}
-use Rattle.trail.specs.Newest.{read_record, newest, newest_fitted, newest_in, read_in_form}
+use Rattle.trail.specs.Newest.{newest_fitted, newest_in, read_in_form}
 
 -- ---- numbers
 

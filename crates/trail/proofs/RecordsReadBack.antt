@@ -1,7 +1,7 @@
 -- The bytes before L read back to the old values, and what reads as old values is exactly their bytes:
 -- one number after the other, each by the law for a number that may be marked.
 -- Assumes nothing.
-use Prim.Native.Nat.{ℕ, ◌+◌, ◌^◌, ◌≤◌}
+use Prim.Native.Nat.{ℕ, ◌^◌, ◌≤◌}
 use mathlib.Core.Path.{◌≡◌, refl, ap, subst, ◌∙◌}
 use mathlib.Core.Bool.{Bool, true}
 use mathlib.Core.Option.{Option, some}

@@ -50,7 +50,7 @@ fn refuse(m: Machine, used: usize, refusal: Refusal) -> Outcome
 }
 
 // What a run of steps came to: the machine, the bytes in use, the steps done and how it ended.
-#[derive(Drop)]
+#[derive(Clone, Copy)]
 struct Advanced {
     machine: Machine,
     used: usize,

@@ -1,5 +1,6 @@
 // who, which operation hit this word (document 02, W7): it reads a place and a routine from standard input, runs the routine as bench does, and tells
 // which operation was the newest to change the word there.
+#![tactic(auto)]
 use asking::Asked;
 use counter::Loaded;
 use libc::{STDIN_FILENO, STDOUT_FILENO};

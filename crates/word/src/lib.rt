@@ -1,4 +1,6 @@
 // Arithmetic on words of 32 bits: sums, comparisons, shifts and the ALU, each the report's own function (pages 10 to 16, tables 5 and 6).
+#![tactic(auto)]
+
 ghost use Rattle.std.specs.Prelude.{◌≡◌, ℕ, ◌<◌, true, false};
 ghost use Rattle.report.specs.Section3.{ADD32, SUB32, COMPARE, RIGHT, LEFT, RIGHTARITH, INVALID, ALU};
 ghost use Rattle.report.specs.Parts.{signed as signed_of, less as less_than, shifted, jumping, to_p};
@@ -7,7 +9,7 @@ ghost use Rattle.std.specs.Int.{w32};
 ghost use Rattle.std.proofs.Common.{of_z};
 
 // What an addition or a subtraction delivers: the word, carry or borrow, and signed overflow.
-#[derive(Drop)]
+#[derive(Clone, Copy)]
 pub struct Sum {
     pub value: u32,
     pub carry: bool,
@@ -15,7 +17,7 @@ pub struct Sum {
 }
 
 // What the ALU delivers: the word, the new B, and whether it stops the machine.
-#[derive(Drop)]
+#[derive(Clone, Copy)]
 pub struct AluResult {
     pub value: u32,
     pub b: bool,

@@ -1,0 +1,52 @@
+-- `two_bytes` meets its contract: marks and P, each one byte.
+-- Assumes nothing.
+use Prim.Native.Nat.{◌+◌, ◌-◌, ◌<◌}
+use mathlib.Core.Path.{◌≡◌, refl}
+use native.Mathlib.Omega.{arith}
+use lib.ListN.{get_or}
+use lib.Seq.{slice}
+use mathlib.Core.List.{[], ◌∷◌}
+use borrow.Author.Rules.{rules}
+use borrow.Author.Tests.{lt-ltb}
+use Rattle.reading.proofs.ReadingNumbers.{last_byte, is_byte, no_byte}
+use Rattle.reading.proofs.ShortRecords.{marks_broken, p-kept, p-lacking, p-alone}
+use Rattle.reading.proofs.short.two_bytes.Goals as goal
+
+pub returns-in_default : goal.returns-in_default
+returns-in_default c =
+    let a = c.args in
+    let s = a.trail.now in
+    let large = no_byte s (a.end - 2) (a.end - 2 + 1) 64 refl (omega arith) (omega arith) c.read_number.ensures c.in_default.is in
+    marks_broken a.kind s a.end 2 (get_or s (a.end - 2) 0) (omega arith) (omega arith) (omega arith) refl large
+
+pub returns-then-marks-ne0 : goal.returns-then-marks-ne0
+returns-then-marks-ne0 c =
+    let marks : let a = c.args in     (get_or a.trail.now (a.end - 2) 0 ≡ c.in-Got.marks) × (c.in-Got.marks < 64) = let a = c.args in
+    is_byte a.trail.now (a.end - 2) (a.end - 2 + 1) 64 refl (omega arith) (omega arith) c.read_number.ensures c.in-Got.is in
+    let a = c.args in
+    let s = a.trail.now in
+    let m = marks in
+    let b = last_byte s (a.end - 2 + 1) a.end (omega arith) (omega arith) in
+    p-alone a.kind s a.end 2 _ (omega arith) (omega arith) (omega arith) m.0 m.1 _ b c.if-marks-ne0.true
+
+pub returns-in_default-read_number : goal.returns-in_default-read_number
+returns-in_default-read_number c =
+    let marks : let a = c.args in     (get_or a.trail.now (a.end - 2) 0 ≡ c.in-Got.marks) × (c.in-Got.marks < 64) = let a = c.args in
+    is_byte a.trail.now (a.end - 2) (a.end - 2 + 1) 64 refl (omega arith) (omega arith) c.read_number.ensures c.in-Got.is in
+    let a = c.args in
+    let s = a.trail.now in
+    let m = marks in
+    let b = last_byte s (a.end - 2 + 1) a.end (omega arith) (omega arith) in
+    let large = no_byte s (a.end - 2 + 1) a.end 128 (omega arith) (omega arith) (omega arith) c.read_number-2.ensures c.in_default-read_number.is in
+    p-lacking a.kind s a.end 2 _ (omega arith) (omega arith) (omega arith) m.0 m.1 _ b large
+
+pub returns : goal.returns
+returns c =
+    let marks : let a = c.args in     (get_or a.trail.now (a.end - 2) 0 ≡ c.in-Got.marks) × (c.in-Got.marks < 64) = let a = c.args in
+    is_byte a.trail.now (a.end - 2) (a.end - 2 + 1) 64 refl (omega arith) (omega arith) c.read_number.ensures c.in-Got.is in
+    let a = c.args in
+    let s = a.trail.now in
+    let m = marks in
+    let p = is_byte s (a.end - 2 + 1) a.end 128 (omega arith) (omega arith) (omega arith) c.read_number-2.ensures c.in-Got-read_number.is in
+    let b : slice (a.end - 2 + 1) a.end s ≡ c.in-Got-read_number.p ∷ [] = rw (last_byte s (a.end - 2 + 1) a.end (omega arith) (omega arith), p.0) in
+    p-kept a.kind s a.end 2 _ (omega arith) (omega arith) (omega arith) m.0 m.1 _ b c.if-marks-ne0.false p.1

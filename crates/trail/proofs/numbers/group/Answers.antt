@@ -1,0 +1,14 @@
+-- `group` meets its contract: it is what the code says.
+-- Assumes nothing.
+use mathlib.Core.Path.{refl}
+use native.Mathlib.Omega.{arith}
+use Rattle.trail.proofs.numbers.group.Goals as goal
+
+pub overflow_add-result : goal.overflow_add-result
+overflow_add-result c = omega arith
+
+pub overflow_cast-result : goal.overflow_cast-result
+overflow_cast-result c = omega arith
+
+pub returns : goal.returns
+returns c = refl
