@@ -5,7 +5,6 @@ use Prim.Native.Nat.{◌-◌, ◌^◌, ◌<◌}
 use mathlib.Core.Path.{◌≡◌, sym}
 use native.Mathlib.Omega.{arith}
 use lib.ListN.{get_or}
-use borrow.Author.Rules.{rules}
 use borrow.Author.Tests.{eq-eqb, ne_eqb, lt-ltb, le-ltb}
 use Rattle.trail.specs.Newest.{newest, newest_fitted}
 use Rattle.trail.proofs.NewestReadsBack.{too_short, too_long, past_the_first, by_L}
@@ -22,7 +21,7 @@ returns-in_default c =
 pub returns-then-n-lt-SHORTEST : goal.returns-then-n-lt-SHORTEST
 unfolding newest_fitted
 returns-then-n-lt-SHORTEST c =
-    let L : let a = c.args in     (get_or a.trail.now (a.used - 1) 0 ≡ c.in-Got.l) × (c.in-Got.l < 29) = let a = c.args in
+    let L : let a = c.args in (get_or a.trail.now (a.used - 1) 0 ≡ c.in-Got.l) × (c.in-Got.l < 29) = let a = c.args in
     is_byte a.trail.now (a.used - 1) a.used 29 (omega arith) (omega arith) (omega arith) c.read_number.ensures c.in-Got.is in
     let a = c.args in
     rw (too_short true (2 ^ 21) a.trail.now a.used (omega (arith, L)))
@@ -30,7 +29,7 @@ returns-then-n-lt-SHORTEST c =
 pub returns-then-end-n : goal.returns-then-end-n
 unfolding newest_fitted
 returns-then-end-n c =
-    let L : let a = c.args in     (get_or a.trail.now (a.used - 1) 0 ≡ c.in-Got.l) × (c.in-Got.l < 29) = let a = c.args in
+    let L : let a = c.args in (get_or a.trail.now (a.used - 1) 0 ≡ c.in-Got.l) × (c.in-Got.l < 29) = let a = c.args in
     is_byte a.trail.now (a.used - 1) a.used 29 (omega arith) (omega arith) (omega arith) c.read_number.ensures c.in-Got.is in
     let a = c.args in
     let l = L in
@@ -39,7 +38,7 @@ returns-then-end-n c =
 pub returns-in_default-read_record : goal.returns-in_default-read_record
 unfolding newest_fitted
 returns-in_default-read_record c =
-    let L : let a = c.args in     (get_or a.trail.now (a.used - 1) 0 ≡ c.in-Got.l) × (c.in-Got.l < 29) = let a = c.args in
+    let L : let a = c.args in (get_or a.trail.now (a.used - 1) 0 ≡ c.in-Got.l) × (c.in-Got.l < 29) = let a = c.args in
     is_byte a.trail.now (a.used - 1) a.used 29 (omega arith) (omega arith) (omega arith) c.read_number.ensures c.in-Got.is in
     let found : let a = c.args in newest (2 ^ 21) a.trail.now a.used ≡ c.read_record.result = let a = c.args in
     let l = L in
@@ -49,7 +48,7 @@ returns-in_default-read_record c =
 pub returns-then-o-main : goal.returns-then-o-main
 unfolding newest_fitted
 returns-then-o-main c =
-    let L : let a = c.args in     (get_or a.trail.now (a.used - 1) 0 ≡ c.in-Got.l) × (c.in-Got.l < 29) = let a = c.args in
+    let L : let a = c.args in (get_or a.trail.now (a.used - 1) 0 ≡ c.in-Got.l) × (c.in-Got.l < 29) = let a = c.args in
     is_byte a.trail.now (a.used - 1) a.used 29 (omega arith) (omega arith) (omega arith) c.read_number.ensures c.in-Got.is in
     let found : let a = c.args in newest (2 ^ 21) a.trail.now a.used ≡ c.read_record.result = let a = c.args in
     let l = L in
@@ -59,7 +58,7 @@ returns-then-o-main c =
 pub returns-then-o-lt-FIRST_PORT : goal.returns-then-o-lt-FIRST_PORT
 unfolding newest_fitted
 returns-then-o-lt-FIRST_PORT c =
-    let L : let a = c.args in     (get_or a.trail.now (a.used - 1) 0 ≡ c.in-Got.l) × (c.in-Got.l < 29) = let a = c.args in
+    let L : let a = c.args in (get_or a.trail.now (a.used - 1) 0 ≡ c.in-Got.l) × (c.in-Got.l < 29) = let a = c.args in
     is_byte a.trail.now (a.used - 1) a.used 29 (omega arith) (omega arith) (omega arith) c.read_number.ensures c.in-Got.is in
     let found : let a = c.args in newest (2 ^ 21) a.trail.now a.used ≡ c.read_record.result = let a = c.args in
     let l = L in
@@ -69,7 +68,7 @@ returns-then-o-lt-FIRST_PORT c =
 pub returns-then-o-ports : goal.returns-then-o-ports
 unfolding newest_fitted
 returns-then-o-ports c =
-    let L : let a = c.args in     (get_or a.trail.now (a.used - 1) 0 ≡ c.in-Got.l) × (c.in-Got.l < 29) = let a = c.args in
+    let L : let a = c.args in (get_or a.trail.now (a.used - 1) 0 ≡ c.in-Got.l) × (c.in-Got.l < 29) = let a = c.args in
     is_byte a.trail.now (a.used - 1) a.used 29 (omega arith) (omega arith) (omega arith) c.read_number.ensures c.in-Got.is in
     let found : let a = c.args in newest (2 ^ 21) a.trail.now a.used ≡ c.read_record.result = let a = c.args in
     let l = L in
@@ -79,7 +78,7 @@ returns-then-o-ports c =
 pub returns-then-o-eq1 : goal.returns-then-o-eq1
 unfolding newest_fitted
 returns-then-o-eq1 c =
-    let L : let a = c.args in     (get_or a.trail.now (a.used - 1) 0 ≡ c.in-Got.l) × (c.in-Got.l < 29) = let a = c.args in
+    let L : let a = c.args in (get_or a.trail.now (a.used - 1) 0 ≡ c.in-Got.l) × (c.in-Got.l < 29) = let a = c.args in
     is_byte a.trail.now (a.used - 1) a.used 29 (omega arith) (omega arith) (omega arith) c.read_number.ensures c.in-Got.is in
     let found : let a = c.args in newest (2 ^ 21) a.trail.now a.used ≡ c.read_record.result = let a = c.args in
     let l = L in
@@ -89,7 +88,7 @@ returns-then-o-eq1 c =
 pub returns : goal.returns
 unfolding newest_fitted
 returns c =
-    let L : let a = c.args in     (get_or a.trail.now (a.used - 1) 0 ≡ c.in-Got.l) × (c.in-Got.l < 29) = let a = c.args in
+    let L : let a = c.args in (get_or a.trail.now (a.used - 1) 0 ≡ c.in-Got.l) × (c.in-Got.l < 29) = let a = c.args in
     is_byte a.trail.now (a.used - 1) a.used 29 (omega arith) (omega arith) (omega arith) c.read_number.ensures c.in-Got.is in
     let found : let a = c.args in newest (2 ^ 21) a.trail.now a.used ≡ c.read_record.result = let a = c.args in
     let l = L in

@@ -6,7 +6,6 @@ use native.Mathlib.Omega.{arith}
 use lib.ListN.{get_or}
 use lib.Dec.{ltb}
 use mathlib.Core.Bool.{Bool, true, false, ◌&&◌}
-use borrow.Author.Rules.{rules}
 use borrow.Author.Tests.{ltb-true, ltb-false, lt-ltb}
 use Rattle.reading.proofs.ReadingGroups.{no_group, one_group, one_too_large, small_bound, two_groups, two_broken, three_groups, more_groups}
 use Rattle.reading.proofs.numbers.number_at.Goals as goal
@@ -72,25 +71,25 @@ returns-then-c-lt128 c =
 
 pub overflow_cast-d : goal.overflow_cast-d
 overflow_cast-d c =
-    let three_bytes : let a = c.args in     (get_or a.bytes.now a.at 0 < 256) × (get_or a.bytes.now (a.at + 1) 0 < 256) × (get_or a.bytes.now (a.at + 2) 0 < 256) = let a = c.args in
+    let three_bytes : let a = c.args in (get_or a.bytes.now a.at 0 < 256) × (get_or a.bytes.now (a.at + 1) 0 < 256) × (get_or a.bytes.now (a.at + 2) 0 < 256) = let a = c.args in
     (omega (arith, c.type_inv.bytes a.at), omega (arith, c.type_inv.bytes (a.at + 1)), omega (arith, c.type_inv.bytes (a.at + 2))) in
     omega (arith, three_bytes)
 
 pub overflow_mul-n-then-at-end-2-2 : goal.overflow_mul-n-then-at-end-2-2
 overflow_mul-n-then-at-end-2-2 c =
-    let three_bytes : let a = c.args in     (get_or a.bytes.now a.at 0 < 256) × (get_or a.bytes.now (a.at + 1) 0 < 256) × (get_or a.bytes.now (a.at + 2) 0 < 256) = let a = c.args in
+    let three_bytes : let a = c.args in (get_or a.bytes.now a.at 0 < 256) × (get_or a.bytes.now (a.at + 1) 0 < 256) × (get_or a.bytes.now (a.at + 2) 0 < 256) = let a = c.args in
     (omega (arith, c.type_inv.bytes a.at), omega (arith, c.type_inv.bytes (a.at + 1)), omega (arith, c.type_inv.bytes (a.at + 2))) in
     omega (arith, three_bytes)
 
 pub overflow_add-n-then-at-end-2-2 : goal.overflow_add-n-then-at-end-2-2
 overflow_add-n-then-at-end-2-2 c =
-    let three_bytes : let a = c.args in     (get_or a.bytes.now a.at 0 < 256) × (get_or a.bytes.now (a.at + 1) 0 < 256) × (get_or a.bytes.now (a.at + 2) 0 < 256) = let a = c.args in
+    let three_bytes : let a = c.args in (get_or a.bytes.now a.at 0 < 256) × (get_or a.bytes.now (a.at + 1) 0 < 256) × (get_or a.bytes.now (a.at + 2) 0 < 256) = let a = c.args in
     (omega (arith, c.type_inv.bytes a.at), omega (arith, c.type_inv.bytes (a.at + 1)), omega (arith, c.type_inv.bytes (a.at + 2))) in
     omega (arith, three_bytes)
 
 pub overflow_cast-result-then-d-n : goal.overflow_cast-result-then-d-n
 overflow_cast-result-then-d-n c =
-    let three : let a = c.args in     let last = get_or a.bytes.now (a.at + 2) 0 in     let n = get_or a.bytes.now a.at 0 % 128 + 128 * (get_or a.bytes.now (a.at + 1) 0 % 128) + 16384 * last in     (0 < last) × (last < 128) × (n < a.bound) = let a = c.args in
+    let three : let a = c.args in let last = get_or a.bytes.now (a.at + 2) 0 in let n = get_or a.bytes.now a.at 0 % 128 + 128 * (get_or a.bytes.now (a.at + 1) 0 % 128) + 16384 * last in (0 < last) × (last < 128) × (n < a.bound) = let a = c.args in
     let last = get_or a.bytes.now (a.at + 2) 0 in
     let n = get_or a.bytes.now a.at 0 % 128 + 128 * (get_or a.bytes.now (a.at + 1) 0 % 128) + 16384 * last in
     let t = both (ltb 0 last && ltb last 128) (ltb n a.bound) c.if-d-n.true in
@@ -100,9 +99,9 @@ overflow_cast-result-then-d-n c =
 
 pub returns-then-d-n : goal.returns-then-d-n
 returns-then-d-n c =
-    let three_bytes : let a = c.args in     (get_or a.bytes.now a.at 0 < 256) × (get_or a.bytes.now (a.at + 1) 0 < 256) × (get_or a.bytes.now (a.at + 2) 0 < 256) = let a = c.args in
+    let three_bytes : let a = c.args in (get_or a.bytes.now a.at 0 < 256) × (get_or a.bytes.now (a.at + 1) 0 < 256) × (get_or a.bytes.now (a.at + 2) 0 < 256) = let a = c.args in
     (omega (arith, c.type_inv.bytes a.at), omega (arith, c.type_inv.bytes (a.at + 1)), omega (arith, c.type_inv.bytes (a.at + 2))) in
-    let three : let a = c.args in     let last = get_or a.bytes.now (a.at + 2) 0 in     let n = get_or a.bytes.now a.at 0 % 128 + 128 * (get_or a.bytes.now (a.at + 1) 0 % 128) + 16384 * last in     (0 < last) × (last < 128) × (n < a.bound) = let a = c.args in
+    let three : let a = c.args in let last = get_or a.bytes.now (a.at + 2) 0 in let n = get_or a.bytes.now a.at 0 % 128 + 128 * (get_or a.bytes.now (a.at + 1) 0 % 128) + 16384 * last in (0 < last) × (last < 128) × (n < a.bound) = let a = c.args in
     let last = get_or a.bytes.now (a.at + 2) 0 in
     let n = get_or a.bytes.now a.at 0 % 128 + 128 * (get_or a.bytes.now (a.at + 1) 0 % 128) + 16384 * last in
     let t = both (ltb 0 last && ltb last 128) (ltb n a.bound) c.if-d-n.true in

@@ -2,7 +2,7 @@ use Prim.Native.Nat.{◌+◌, ◌-◌, ◌*◌, ◌<◌, ◌≤◌}
 use native.Mathlib.Omega.{arith}
 use lib.ListN.{get_or}
 use Rattle.trail.proofs.NumbersReadBack.{cap}
-use Rattle.reading.proofs.ReadingGroups.{Reading, starts, room, ran_out, one_more, too_many, too_large, ends, goes_on}
+use Rattle.reading.proofs.ReadingGroups.{starts, room, ran_out, one_more, too_many, too_large, ends, goes_on}
 use Rattle.reading.proofs.numbers.read_more.Goals as goal
 
 pub loop-next-init : goal.loop-next-init
@@ -19,13 +19,13 @@ returns-then-b-eq0 c = too_many c.loop-next.invariant c.args.bound (omega arith)
 
 pub overflow_mul-n : goal.overflow_mul-n
 overflow_mul-n c =
-    let last_room : let l = c.loop-next in     let b = get_or c.args.bytes.now l.next 0 in     (l.low + l.scale * b < l.scale * 128) × (l.scale * 128 ≤ cap 5) = let l = c.loop-next in
+    let last_room : let l = c.loop-next in let b = get_or c.args.bytes.now l.next 0 in (l.low + l.scale * b < l.scale * 128) × (l.scale * 128 ≤ cap 5) = let l = c.loop-next in
     room l.invariant (get_or c.args.bytes.now l.next 0) (omega arith) in
     omega (arith, last_room)
 
 pub overflow_add-n : goal.overflow_add-n
 overflow_add-n c =
-    let last_room : let l = c.loop-next in     let b = get_or c.args.bytes.now l.next 0 in     (l.low + l.scale * b < l.scale * 128) × (l.scale * 128 ≤ cap 5) = let l = c.loop-next in
+    let last_room : let l = c.loop-next in let b = get_or c.args.bytes.now l.next 0 in (l.low + l.scale * b < l.scale * 128) × (l.scale * 128 ≤ cap 5) = let l = c.loop-next in
     room l.invariant (get_or c.args.bytes.now l.next 0) (omega arith) in
     omega (arith, last_room)
 
@@ -46,19 +46,19 @@ returns-then-scale-bound c = one_more c.loop-next.invariant c.args.bound (omega 
 
 pub overflow_mul-low : goal.overflow_mul-low
 overflow_mul-low c =
-    let more_room : let l = c.loop-next in     let b = get_or c.args.bytes.now l.next 0 in     (l.low + l.scale * (b - 128) < l.scale * 128) × (l.scale * 128 ≤ cap 5) = let l = c.loop-next in
+    let more_room : let l = c.loop-next in let b = get_or c.args.bytes.now l.next 0 in (l.low + l.scale * (b - 128) < l.scale * 128) × (l.scale * 128 ≤ cap 5) = let l = c.loop-next in
     room l.invariant (get_or c.args.bytes.now l.next 0 - 128) (omega (arith, c.type_inv.bytes l.next)) in
     omega (arith, more_room)
 
 pub overflow_add-low : goal.overflow_add-low
 overflow_add-low c =
-    let more_room : let l = c.loop-next in     let b = get_or c.args.bytes.now l.next 0 in     (l.low + l.scale * (b - 128) < l.scale * 128) × (l.scale * 128 ≤ cap 5) = let l = c.loop-next in
+    let more_room : let l = c.loop-next in let b = get_or c.args.bytes.now l.next 0 in (l.low + l.scale * (b - 128) < l.scale * 128) × (l.scale * 128 ≤ cap 5) = let l = c.loop-next in
     room l.invariant (get_or c.args.bytes.now l.next 0 - 128) (omega (arith, c.type_inv.bytes l.next)) in
     omega (arith, more_room)
 
 pub overflow_mul-scale : goal.overflow_mul-scale
 overflow_mul-scale c =
-    let more_room : let l = c.loop-next in     let b = get_or c.args.bytes.now l.next 0 in     (l.low + l.scale * (b - 128) < l.scale * 128) × (l.scale * 128 ≤ cap 5) = let l = c.loop-next in
+    let more_room : let l = c.loop-next in let b = get_or c.args.bytes.now l.next 0 in (l.low + l.scale * (b - 128) < l.scale * 128) × (l.scale * 128 ≤ cap 5) = let l = c.loop-next in
     room l.invariant (get_or c.args.bytes.now l.next 0 - 128) (omega (arith, c.type_inv.bytes l.next)) in
     omega (arith, more_room)
 

@@ -1,11 +1,8 @@
 -- `read_more` meets its contract: at the loop's head, the whole number is `low`, under `scale` times what the bytes from `next` on give.
 -- Each turn, one byte fewer is left.
 -- Assumes nothing.
-use Prim.Native.Nat.{◌+◌, ◌-◌, ◌*◌, ◌<◌, ◌≤◌}
-use native.Mathlib.Omega.{arith}
-use lib.ListN.{get_or}
-use Rattle.trail.proofs.NumbersReadBack.{cap}
-use Rattle.reading.proofs.ReadingGroups.{Reading, starts, room, ran_out, one_more, too_many, too_large, ends, goes_on}
+use Prim.Native.Nat.{◌-◌}
+use Rattle.reading.proofs.ReadingGroups.{Reading}
 use Rattle.reading.proofs.numbers.read_more.Given as goal
 
 abbrev pub invariant-loop-next : goal.invariant-loop-next

@@ -1,6 +1,5 @@
 -- `read_short` meets its contract: L below 5, the kind, and then two bytes or three, of which the first is the marks.
 -- Assumes nothing.
-use borrow.Author.Rules.{rules}
 use Prim.Native.Nat.{◌+◌, ◌-◌, ◌<◌, ◌≤◌}
 use mathlib.Core.Path.{◌≡◌, refl, sym, subst}
 use native.Mathlib.Omega.{arith}
@@ -19,14 +18,14 @@ returns-in_default c =
 
 pub returns-then-l-lt-SHORTEST : goal.returns-then-l-lt-SHORTEST
 returns-then-l-lt-SHORTEST c =
-    let L : let a = c.args in     (get_or a.trail.now (a.used - 1) 0 ≡ c.in-Got.n) × (c.in-Got.n < 5) = let a = c.args in
+    let L : let a = c.args in (get_or a.trail.now (a.used - 1) 0 ≡ c.in-Got.n) × (c.in-Got.n < 5) = let a = c.args in
     is_byte a.trail.now (a.used - 1) a.used 5 (omega arith) (omega arith) (omega arith) c.read_number.ensures c.in-Got.is in
     let a = c.args in
     too_few a.trail.now a.used (omega (arith, L, c.if-l-lt-SHORTEST.true))
 
 pub returns-then-end-l : goal.returns-then-end-l
 returns-then-end-l c =
-    let L : let a = c.args in     (get_or a.trail.now (a.used - 1) 0 ≡ c.in-Got.n) × (c.in-Got.n < 5) = let a = c.args in
+    let L : let a = c.args in (get_or a.trail.now (a.used - 1) 0 ≡ c.in-Got.n) × (c.in-Got.n < 5) = let a = c.args in
     is_byte a.trail.now (a.used - 1) a.used 5 (omega arith) (omega arith) (omega arith) c.read_number.ensures c.in-Got.is in
     let a = c.args in
     let l = L in
@@ -34,7 +33,7 @@ returns-then-end-l c =
 
 pub returns-in_default-read_number : goal.returns-in_default-read_number
 returns-in_default-read_number c =
-    let L : let a = c.args in     (get_or a.trail.now (a.used - 1) 0 ≡ c.in-Got.n) × (c.in-Got.n < 5) = let a = c.args in
+    let L : let a = c.args in (get_or a.trail.now (a.used - 1) 0 ≡ c.in-Got.n) × (c.in-Got.n < 5) = let a = c.args in
     is_byte a.trail.now (a.used - 1) a.used 5 (omega arith) (omega arith) (omega arith) c.read_number.ensures c.in-Got.is in
     let a = c.args in
     let s = a.trail.now in
@@ -46,7 +45,7 @@ returns-in_default-read_number c =
 
 pub returns-then-l-eq-SHORTEST : goal.returns-then-l-eq-SHORTEST
 returns-then-l-eq-SHORTEST c =
-    let L : let a = c.args in     (get_or a.trail.now (a.used - 1) 0 ≡ c.in-Got.n) × (c.in-Got.n < 5) = let a = c.args in
+    let L : let a = c.args in (get_or a.trail.now (a.used - 1) 0 ≡ c.in-Got.n) × (c.in-Got.n < 5) = let a = c.args in
     is_byte a.trail.now (a.used - 1) a.used 5 (omega arith) (omega arith) (omega arith) c.read_number.ensures c.in-Got.is in
     let a = c.args in
     let s = a.trail.now in
@@ -57,19 +56,19 @@ returns-then-l-eq-SHORTEST c =
 
 pub overflow_sub-end-4 : goal.overflow_sub-end-4
 overflow_sub-end-4 c =
-    let L : let a = c.args in     (get_or a.trail.now (a.used - 1) 0 ≡ c.in-Got.n) × (c.in-Got.n < 5) = let a = c.args in
+    let L : let a = c.args in (get_or a.trail.now (a.used - 1) 0 ≡ c.in-Got.n) × (c.in-Got.n < 5) = let a = c.args in
     is_byte a.trail.now (a.used - 1) a.used 5 (omega arith) (omega arith) (omega arith) c.read_number.ensures c.in-Got.is in
     omega (arith, L, c.if-l-lt-SHORTEST.false, c.if-end-l.false, c.if-l-eq-SHORTEST.false)
 
 pub overflow_sub-end-5 : goal.overflow_sub-end-5
 overflow_sub-end-5 c =
-    let L : let a = c.args in     (get_or a.trail.now (a.used - 1) 0 ≡ c.in-Got.n) × (c.in-Got.n < 5) = let a = c.args in
+    let L : let a = c.args in (get_or a.trail.now (a.used - 1) 0 ≡ c.in-Got.n) × (c.in-Got.n < 5) = let a = c.args in
     is_byte a.trail.now (a.used - 1) a.used 5 (omega arith) (omega arith) (omega arith) c.read_number.ensures c.in-Got.is in
     omega (arith, L, c.if-l-lt-SHORTEST.false, c.if-end-l.false, c.if-l-eq-SHORTEST.false)
 
 pub returns-in_default-read_number-2 : goal.returns-in_default-read_number-2
 returns-in_default-read_number-2 c =
-    let L : let a = c.args in     (get_or a.trail.now (a.used - 1) 0 ≡ c.in-Got.n) × (c.in-Got.n < 5) = let a = c.args in
+    let L : let a = c.args in (get_or a.trail.now (a.used - 1) 0 ≡ c.in-Got.n) × (c.in-Got.n < 5) = let a = c.args in
     is_byte a.trail.now (a.used - 1) a.used 5 (omega arith) (omega arith) (omega arith) c.read_number.ensures c.in-Got.is in
     let a = c.args in
     let s = a.trail.now in
@@ -82,9 +81,9 @@ returns-in_default-read_number-2 c =
 
 pub wide_p-requires : goal.wide_p-requires
 wide_p-requires c =
-    let L : let a = c.args in     (get_or a.trail.now (a.used - 1) 0 ≡ c.in-Got.n) × (c.in-Got.n < 5) = let a = c.args in
+    let L : let a = c.args in (get_or a.trail.now (a.used - 1) 0 ≡ c.in-Got.n) × (c.in-Got.n < 5) = let a = c.args in
     is_byte a.trail.now (a.used - 1) a.used 5 (omega arith) (omega arith) (omega arith) c.read_number.ensures c.in-Got.is in
-    let marks : let a = c.args in     Marked a.trail.now (a.used - 1 - 3) c.in-Got-read_number-2.marks = let a = c.args in
+    let marks : let a = c.args in Marked a.trail.now (a.used - 1 - 3) c.in-Got-read_number-2.marks = let a = c.args in
     let m = is_byte a.trail.now (a.used - 1 - 3) (a.used - 1 - 3 + 1) 64 refl (omega arith) (omega arith) c.read_number-3.ensures c.in-Got-read_number-2.is in
     record { byte = m.0; small = m.1 } in
     let l = L in
@@ -92,7 +91,7 @@ wide_p-requires c =
 
 pub returns-then-marks-eq0 : goal.returns-then-marks-eq0
 returns-then-marks-eq0 c =
-    let L : let a = c.args in     (get_or a.trail.now (a.used - 1) 0 ≡ c.in-Got.n) × (c.in-Got.n < 5) = let a = c.args in
+    let L : let a = c.args in (get_or a.trail.now (a.used - 1) 0 ≡ c.in-Got.n) × (c.in-Got.n < 5) = let a = c.args in
     is_byte a.trail.now (a.used - 1) a.used 5 (omega arith) (omega arith) (omega arith) c.read_number.ensures c.in-Got.is in
     let a = c.args in
     let s = a.trail.now in
@@ -103,16 +102,16 @@ returns-then-marks-eq0 c =
 
 pub two_numbers-requires : goal.two_numbers-requires
 two_numbers-requires c =
-    let L : let a = c.args in     (get_or a.trail.now (a.used - 1) 0 ≡ c.in-Got.n) × (c.in-Got.n < 5) = let a = c.args in
+    let L : let a = c.args in (get_or a.trail.now (a.used - 1) 0 ≡ c.in-Got.n) × (c.in-Got.n < 5) = let a = c.args in
     is_byte a.trail.now (a.used - 1) a.used 5 (omega arith) (omega arith) (omega arith) c.read_number.ensures c.in-Got.is in
     let l = L in
     (omega (arith, l, c.if-l-lt-SHORTEST.false, c.if-end-l.false, c.if-l-eq-SHORTEST.false), omega arith)
 
 pub returns-in_default-two_numbers : goal.returns-in_default-two_numbers
 returns-in_default-two_numbers c =
-    let L : let a = c.args in     (get_or a.trail.now (a.used - 1) 0 ≡ c.in-Got.n) × (c.in-Got.n < 5) = let a = c.args in
+    let L : let a = c.args in (get_or a.trail.now (a.used - 1) 0 ≡ c.in-Got.n) × (c.in-Got.n < 5) = let a = c.args in
     is_byte a.trail.now (a.used - 1) a.used 5 (omega arith) (omega arith) (omega arith) c.read_number.ensures c.in-Got.is in
-    let marks : let a = c.args in     Marked a.trail.now (a.used - 1 - 3) c.in-Got-read_number-2.marks = let a = c.args in
+    let marks : let a = c.args in Marked a.trail.now (a.used - 1 - 3) c.in-Got-read_number-2.marks = let a = c.args in
     let m = is_byte a.trail.now (a.used - 1 - 3) (a.used - 1 - 3 + 1) 64 refl (omega arith) (omega arith) c.read_number-3.ensures c.in-Got-read_number-2.is in
     record { byte = m.0; small = m.1 } in
     let a = c.args in
@@ -127,15 +126,15 @@ returns-in_default-two_numbers c =
 
 pub overflow_sub-end-6 : goal.overflow_sub-end-6
 overflow_sub-end-6 c =
-    let L : let a = c.args in     (get_or a.trail.now (a.used - 1) 0 ≡ c.in-Got.n) × (c.in-Got.n < 5) = let a = c.args in
+    let L : let a = c.args in (get_or a.trail.now (a.used - 1) 0 ≡ c.in-Got.n) × (c.in-Got.n < 5) = let a = c.args in
     is_byte a.trail.now (a.used - 1) a.used 5 (omega arith) (omega arith) (omega arith) c.read_number.ensures c.in-Got.is in
     omega (arith, L, c.if-l-lt-SHORTEST.false, c.if-end-l.false, c.if-l-eq-SHORTEST.false)
 
 pub returns : goal.returns
 returns c =
-    let L : let a = c.args in     (get_or a.trail.now (a.used - 1) 0 ≡ c.in-Got.n) × (c.in-Got.n < 5) = let a = c.args in
+    let L : let a = c.args in (get_or a.trail.now (a.used - 1) 0 ≡ c.in-Got.n) × (c.in-Got.n < 5) = let a = c.args in
     is_byte a.trail.now (a.used - 1) a.used 5 (omega arith) (omega arith) (omega arith) c.read_number.ensures c.in-Got.is in
-    let marks : let a = c.args in     Marked a.trail.now (a.used - 1 - 3) c.in-Got-read_number-2.marks = let a = c.args in
+    let marks : let a = c.args in Marked a.trail.now (a.used - 1 - 3) c.in-Got-read_number-2.marks = let a = c.args in
     let m = is_byte a.trail.now (a.used - 1 - 3) (a.used - 1 - 3 + 1) 64 refl (omega arith) (omega arith) c.read_number-3.ensures c.in-Got-read_number-2.is in
     record { byte = m.0; small = m.1 } in
     let a = c.args in

@@ -6,8 +6,6 @@ use native.Mathlib.Omega.{arith}
 use lib.ListN.{get_or}
 use lib.Seq.{slice}
 use mathlib.Core.List.{[], ◌∷◌}
-use borrow.Author.Rules.{rules}
-use borrow.Author.Tests.{lt-ltb}
 use Rattle.reading.proofs.ReadingNumbers.{last_byte, is_byte, no_byte}
 use Rattle.reading.proofs.ShortRecords.{marks_broken, p-kept, p-lacking, p-alone}
 use Rattle.reading.proofs.short.two_bytes.Goals as goal
@@ -21,7 +19,7 @@ returns-in_default c =
 
 pub returns-then-marks-ne0 : goal.returns-then-marks-ne0
 returns-then-marks-ne0 c =
-    let marks : let a = c.args in     (get_or a.trail.now (a.end - 2) 0 ≡ c.in-Got.marks) × (c.in-Got.marks < 64) = let a = c.args in
+    let marks : let a = c.args in (get_or a.trail.now (a.end - 2) 0 ≡ c.in-Got.marks) × (c.in-Got.marks < 64) = let a = c.args in
     is_byte a.trail.now (a.end - 2) (a.end - 2 + 1) 64 refl (omega arith) (omega arith) c.read_number.ensures c.in-Got.is in
     let a = c.args in
     let s = a.trail.now in
@@ -31,7 +29,7 @@ returns-then-marks-ne0 c =
 
 pub returns-in_default-read_number : goal.returns-in_default-read_number
 returns-in_default-read_number c =
-    let marks : let a = c.args in     (get_or a.trail.now (a.end - 2) 0 ≡ c.in-Got.marks) × (c.in-Got.marks < 64) = let a = c.args in
+    let marks : let a = c.args in (get_or a.trail.now (a.end - 2) 0 ≡ c.in-Got.marks) × (c.in-Got.marks < 64) = let a = c.args in
     is_byte a.trail.now (a.end - 2) (a.end - 2 + 1) 64 refl (omega arith) (omega arith) c.read_number.ensures c.in-Got.is in
     let a = c.args in
     let s = a.trail.now in
@@ -42,7 +40,7 @@ returns-in_default-read_number c =
 
 pub returns : goal.returns
 returns c =
-    let marks : let a = c.args in     (get_or a.trail.now (a.end - 2) 0 ≡ c.in-Got.marks) × (c.in-Got.marks < 64) = let a = c.args in
+    let marks : let a = c.args in (get_or a.trail.now (a.end - 2) 0 ≡ c.in-Got.marks) × (c.in-Got.marks < 64) = let a = c.args in
     is_byte a.trail.now (a.end - 2) (a.end - 2 + 1) 64 refl (omega arith) (omega arith) c.read_number.ensures c.in-Got.is in
     let a = c.args in
     let s = a.trail.now in

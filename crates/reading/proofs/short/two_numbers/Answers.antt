@@ -1,6 +1,5 @@
 -- `two_numbers` meets its contract: each of the two bytes is a number below 128, or one is not.
 -- Assumes nothing.
-use borrow.Author.Rules.{rules}
 use Prim.Native.Nat.{◌-◌, ◌<◌}
 use mathlib.Core.Path.{◌≡◌}
 use native.Mathlib.Omega.{arith}
@@ -24,7 +23,7 @@ returns-in_default-read_number c =
 
 pub returns : goal.returns
 returns c =
-    let p_is : let a = c.args in     (get_or a.trail.now (a.end - 2) 0 ≡ c.in-Got.p) × (c.in-Got.p < 128) = let a = c.args in
+    let p_is : let a = c.args in (get_or a.trail.now (a.end - 2) 0 ≡ c.in-Got.p) × (c.in-Got.p < 128) = let a = c.args in
     is_byte a.trail.now (a.end - 2) (a.end - 1) 128 (omega arith) (omega arith) (omega arith) c.read_number.ensures c.in-Got.is in
     let a = c.args in
     let s = a.trail.now in

@@ -1,6 +1,5 @@
 -- `wide_p` meets its contract: nothing is marked, so P takes both bytes after the marks.
 -- Assumes nothing.
-use borrow.Author.Rules.{rules}
 use native.Mathlib.Omega.{arith}
 use Rattle.reading.proofs.ShortRecords.{no-p, p-ends, left_over}
 use Rattle.reading.proofs.short.wide_p.Goals as goal

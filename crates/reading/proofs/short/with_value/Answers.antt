@@ -1,6 +1,5 @@
 -- Each mark is asked in the definition's order.
 -- Assumes nothing.
-use borrow.Author.Rules.{rules}
 use Prim.Native.Nat.{◌%◌}
 use borrow.Author.Tests.{eq-eqb, ne_eqb}
 use Rattle.reading.specs.Finding.{with_value}

@@ -3,9 +3,7 @@ use mathlib.Core.Path.{◌≡◌, refl}
 use Prim.Native.Nat.{ℕ, zero, suc, ◌*◌, ◌%◌, ◌^◌, ◌<◌}
 use native.Mathlib.Omega.{arith}
 use Rattle.step.specs.Finishing.{mark_weight}
-use borrow.Author.Rules.{rules}
-use Rattle.step.proofs.finish.mark_of.Statement.{statement}
-use Rattle.step.proofs.finish.mark_of.Tie as tie
+use Rattle.step.proofs.finish.mark_of.Goals as goal
 
 powers : (k : ℕ) → k < 3 → 1 * 2 ^ k % 2 ^ 32 ≡ mark_weight k
 powers zero h = refl
@@ -13,11 +11,5 @@ powers (suc zero) h = refl
 powers (suc (suc zero)) h = refl
 powers (suc (suc (suc k))) h = absurd (omega arith)
 
-shl-result : tie.Need-overflow-shl-result
-shl-result c = search rules
-
-returns : tie.Need-returns
+pub returns : goal.returns
 returns c = powers c.args.k c.requires
-
-pub mark_of_spec : {M : Type 1} → statement M
-mark_of_spec = tie.close (tie.spec shl-result returns)

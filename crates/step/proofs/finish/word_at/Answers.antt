@@ -1,0 +1,15 @@
+-- The place is fitted, so its address is below its store's length.
+use Rattle.step.proofs.Stores.{main_fits, port_fits, main_word, port_word}
+use Rattle.step.proofs.finish.word_at.Goals as goal
+
+pub bounds-main-i : goal.bounds-main-i
+bounds-main-i c = main_fits c.args.main.now c.args.ports.now c.args.place c.in-Main.n c.in-Main.is c.requires
+
+pub bounds-ports-i : goal.bounds-ports-i
+bounds-ports-i c = port_fits c.args.main.now c.args.ports.now c.args.place c.in-Port.n c.in-Port.is c.requires
+
+pub returns-in-Main : goal.returns-in-Main
+returns-in-Main c = main_word c.args.main.now c.args.ports.now c.args.place c.in-Main.n c.in-Main.is
+
+pub returns-in-Port : goal.returns-in-Port
+returns-in-Port c = port_word c.args.main.now c.args.ports.now c.args.place c.in-Port.n c.in-Port.is
