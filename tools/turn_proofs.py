@@ -65,12 +65,28 @@ class Function:
             self.places[old] = (parent, fields[0], fields[1])
             self.arms[old] = arm
             self.typed[old] = {norm(step): variable for variable, step in typed}
+        self.passed = {new: names["params"].get(fn, []) for old, parent, (_, new), fn, more in names["places"] if fn}
         self.by_norm = {norm(p): p for p in self.places}
         self.goals = {}
         for (old, new), (place, _) in zip(names["needs"], names["asked_at"]):
             self.goals[goal_key(old)] = (new, place)
         self.loops = names["loops"]
         self.changed = names["changed"]
+
+    def by_parameter(self, step, parts):
+        """What a `&mut` argument holds after a call was a place in a tuple of all parameters: now it goes by the parameter's name."""
+        if step in self.passed and len(parts) > 1 and parts[0] == "new" and re.fullmatch(r"(1 )*0", " ".join(parts[1: 1 + self.depth(parts)])):
+            k = self.depth(parts) - 1
+            if k < len(self.passed[step]):
+                return ["new", self.passed[step][k]] + parts[2 + k:]
+        return parts
+
+    @staticmethod
+    def depth(parts):
+        n = 1
+        while n < len(parts) and parts[n] == "1":
+            n += 1
+        return n
 
     def resolve(self, place, parts):
         """The place where a path's 'before's lead, and its other parts by today's names."""
@@ -143,6 +159,8 @@ def turn_body(f, place, body, var="c"):
         head, tail = m.group(1), [p.replace("type-inv", "type_inv") for p in m.group(2).split(".") if p]
         if head not in aliases or (head == "c" and not tail):
             return m.group()
+        if isinstance(aliases[head], tuple):
+            return ".".join([head] + f.by_parameter(aliases[head][1], tail))
         if aliases[head] == "REST":
             return "(omega arith)"
         at, parts = f.resolve(aliases[head], tail)
@@ -150,7 +168,7 @@ def turn_body(f, place, body, var="c"):
             parts[1] = "is"
         if len(parts) > 1 and parts[1] == "rest":
             return "(omega arith)"
-        return ".".join(["c"] + parts)
+        return ".".join(["c"] + (parts[:1] + f.by_parameter(parts[0], parts[1:]) if parts else []))
 
     out = []
     pos = 0
@@ -164,15 +182,24 @@ def turn_body(f, place, body, var="c"):
         head = m.group(2).split(".")[0]
         tail = m.group(2).split(".")[1:]
         done = False
-        if head in aliases:
+        aliases.pop(m.group(1), None)
+        if head in aliases and not isinstance(aliases[head], tuple):
             at, parts = (aliases[head], ["", "rest"]) if aliases[head] == "REST" else f.resolve(aliases[head], tail)
             if not parts or parts[1:] == ["rest"]:
                 aliases[m.group(1)] = at if not parts else "REST"
                 done = True
+            elif len(parts) == 1 and parts[0] in f.passed:
+                out.append(f"let {m.group(1)} = c.{parts[0]} in{m.group(3)}")
+                aliases[m.group(1)] = ("STEP", parts[0])
+                pos = m.end()
+                continue
         if not done:
             out.append("let " + m.group(1) + " = " + PATH.sub(path, m.group(2)) + " in" + m.group(3))
         pos = m.end()
-    return "".join(out)
+    text = "".join(out)
+    # a test of `!b` says today what b is
+    text = re.sub(r"\(not-(?:true|false) \S+ (c\.if-not-\S+?\.(?:true|false))\)", r"\1", text)
+    return re.sub(r"(?<![(\w-])not-(?:true|false) (?:[^\s()]+|\([^()]*\)) (c\.if-not-[^\s()]+\.(?:true|false))", r"\1", text)
 
 
 def turn(crate, folder, names):

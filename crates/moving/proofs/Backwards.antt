@@ -2,28 +2,25 @@
 -- Assumes nothing.
 use Prim.Native.Nat.{ℕ, suc, ◌+◌, ◌-◌, ◌^◌, ◌<◌, ◌≤◌}
 use mathlib.Core.Path.{◌≡◌, refl, ap, sym, ◌∙◌, subst}
-use mathlib.Core.Bool.{Bool, true, false, not, cond}
-use mathlib.Core.Option.{Option, none, some}
-use mathlib.Core.List.{List, [], ◌∷◌, ◌++◌, append_assoc, append-nil}
+use mathlib.Core.Bool.{Bool, true, false, not}
+use mathlib.Core.Option.{some}
+use mathlib.Core.List.{List, [], ◌∷◌, ◌++◌, append_assoc}
 use native.Mathlib.Omega.{arith}
-use native.Mathlib.Numerals.{add-one}
-use lib.Dec.{ltb}
 use lib.ListN.{length, get_or, take, drop, set, length-append, length-set, length-drop}
 use lib.Seq.{slice, paste, paste-zero, length-paste, take-add, drop_at, drop-drop, drop-cons, drop-set-lt, get_or-drop, get_or-set_same, length-slice, length-take-le}
-use borrow.Author.Tests.{lt-ltb, le-ltb}
+use borrow.Author.Tests.{le-ltb}
 use Rattle.report.specs.AnnexA.{BV}
-use Rattle.trail.specs.Numbers.{groups, bytes_if, GoodIf}
+use Rattle.trail.specs.Numbers.{groups}
 use Rattle.trail.specs.declared.OldValues.{OldValues}
 use Rattle.trail.specs.Records.{from_marks, body_in, record_in, GoodIn}
-use Rattle.trail.specs.Newest.{read_in_form, newest_in}
 use Rattle.trail.proofs.RecordsReadBack.{read_only_in}
-use Rattle.trail.proofs.NewestReadsBack.{Found, newest_found}
+use Rattle.trail.proofs.NewestReadsBack.{newest_found}
 use Rattle.trail.proofs.NumbersReadBack.{groups_one}
 use Rattle.trail.proofs.Adding.{Copying, goes_on}
-use Rattle.moving.specs.declared.Moved.TheVariants.{Bytes, Short, Broken}
-use Rattle.moving.specs.Rows.{row, GoodRow, records_of, records}
-use Rattle.moving.specs.Moving.{moved_length, moved_record, PutBefore, Moves, put_front, put_records, move}
-use Rattle.moving.proofs.Division.{none_of, Parted, parted}
+use Rattle.moving.specs.declared.Moved.TheVariants.{Bytes}
+use Rattle.moving.specs.Rows.{row, records_of}
+use Rattle.moving.specs.Moving.{moved_length, moved_record, PutBefore, Moves, move}
+use Rattle.moving.proofs.Division.{none_of, parted}
 
 -- ---- bytes copied
 

@@ -1,15 +1,13 @@
 -- One law for each way out of the functions that judge a trail, and what the loop that counts its records keeps.
 -- Assumes nothing.
-use Prim.Native.Nat.{ℕ, suc, ◌+◌, ◌-◌, ◌^◌, ◌<◌, ◌≤◌}
+use Prim.Native.Nat.{ℕ, ◌+◌, ◌-◌, ◌^◌, ◌<◌, ◌≤◌}
 use mathlib.Core.Path.{◌≡◌, refl, ap, sym, ◌∙◌}
-use mathlib.Core.Bool.{Bool, true, false, cond}
+use mathlib.Core.Bool.{Bool}
 use mathlib.Core.Option.{Option, none, some}
 use mathlib.Core.List.{List, [], ◌∷◌, ◌++◌, append_assoc, append-nil}
 use native.Mathlib.Omega.{arith}
-use lib.Dec.{ltb}
 use lib.ListN.{length, get_or, length-append}
 use lib.Seq.{slice}
-use borrow.Author.Tests.{lt-ltb, le-ltb}
 use Rattle.report.specs.AnnexA.{BV}
 use Rattle.trail.specs.declared.OldValues.{OldValues}
 use Rattle.trail.specs.declared.Newest.{Newest}
@@ -19,7 +17,6 @@ use Rattle.trail.specs.Newest.{read_in_form, leaving, newest_in}
 use Rattle.trail.proofs.NewestReadsBack.{by_L}
 use Rattle.moving.specs.declared.judging.Start.{Start}
 use Rattle.moving.specs.declared.judging.Start.TheVariants as start
-use Rattle.moving.specs.declared.judging.Count.{Count}
 use Rattle.moving.specs.declared.judging.Count.TheVariants as count
 use Rattle.moving.specs.Rows.{row, GoodRow, newer, records_of, records}
 use Rattle.moving.specs.Moving.{start_of, count_of}

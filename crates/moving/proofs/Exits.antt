@@ -1,16 +1,14 @@
 -- One law for each way out of a move, by what was counted and by the room that was found.
 -- Assumes nothing.
-use Prim.Native.Nat.{ℕ, ◌+◌, ◌-◌, ◌<◌, ◌≤◌}
+use Prim.Native.Nat.{ℕ, ◌<◌, ◌≤◌}
 use mathlib.Core.Path.{◌≡◌, refl, ap, sym, ◌∙◌}
 use mathlib.Core.Bool.{Bool, true, false, not, cond}
-use mathlib.Core.Option.{Option, none, some}
 use mathlib.Core.List.{List}
 use native.Mathlib.Omega.{arith}
 use lib.Dec.{ltb}
 use lib.ListN.{length}
 use borrow.Author.Tests.{ltb-true, ltb-false, lt-ltb}
-use Rattle.trail.specs.declared.OldValues.{OldValues}
-use Rattle.moving.specs.declared.Moved.TheVariants.{Bytes, Short, Broken}
+use Rattle.moving.specs.declared.Moved.TheVariants.{Short, Broken}
 use Rattle.moving.specs.declared.judging.Count.{Count}
 use Rattle.moving.specs.declared.judging.Count.TheVariants as count
 use Rattle.moving.specs.declared.judging.Room.{Room}

@@ -1,21 +1,21 @@
 -- Document 02, W12, over the definition of a move: what is accepted, what a move there and back gives, and how long it is.
 -- Assumes nothing.
-use Prim.Native.Nat.{ℕ, ◌+◌, ◌-◌, ◌^◌, ◌<◌, ◌≤◌}
+use Prim.Native.Nat.{ℕ, ◌+◌, ◌<◌, ◌≤◌}
 use mathlib.Core.Path.{◌≡◌, refl, ap, sym, ◌∙◌}
 use mathlib.Core.Bool.{Bool, true, false, not, cond}
 use mathlib.Core.Option.{Option, none, some}
 use mathlib.Core.List.{List, [], ◌∷◌, ◌++◌, map}
 use native.Mathlib.Omega.{arith}
 use lib.Dec.{ltb}
-use lib.ListN.{length, get_or, take, drop}
-use lib.Seq.{slice, take_at}
+use lib.ListN.{length, take, drop}
+use lib.Seq.{take_at}
 use borrow.Author.Tests.{ltb-true, ltb-false, lt-ltb, le-ltb}
 use Rattle.trail.specs.declared.OldValues.{OldValues}
 use Rattle.trail.specs.Records.{record_in}
 use Rattle.moving.specs.declared.Moved.{Moved}
 use Rattle.moving.specs.declared.Moved.TheVariants.{Bytes, Short, Broken}
 use Rattle.moving.specs.Rows.{row, GoodRow, records}
-use Rattle.moving.specs.Moving.{put_front, put_records, move}
+use Rattle.moving.specs.Moving.{put_records, move}
 use Rattle.moving.proofs.Entries.{kind_small}
 use Rattle.moving.proofs.Division.{reads, only, row_small, row_lengths}
 

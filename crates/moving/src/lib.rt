@@ -1,5 +1,6 @@
 // Whole trails moved from the old form of records to the new one, where each begins with its kind, and back (document 02, W12).
 #![tactic(auto)]
+
 mod judging;
 mod writing;
 

@@ -6,18 +6,17 @@ use mathlib.Core.Bool.{Bool, true, false, not, cond}
 use mathlib.Core.Option.{Option, none, some}
 use native.Mathlib.Omega.{arith}
 use lib.Dec.{eqb}
-use lib.ListN.{get_or}
 use lib.Seq.{get_or-set_other}
 use borrow.Author.Tests.{eqb-true, eq-eqb}
 use Rattle.report.specs.AnnexA.{Mem}
 use Rattle.report.specs.Section3.{State}
-use Rattle.report.specs.Parts.{Where, word_at, with_word, fitted}
+use Rattle.report.specs.Parts.{Where, word_at, with_word}
 use Rattle.machine.specs.Held.{machine_of, where_of, place_of}
 use Rattle.machine.specs.declared.Place.{Place}
 use Rattle.trail.specs.declared.Kind.{Kind}
 use Rattle.trail.specs.declared.Word.{Word}
 use Rattle.trail.specs.declared.Word.TheVariants.{Kept, Changed}
-use Rattle.trail.specs.Records.{marked, differs, place_number, where_of_number, word_changed, word_place, word_value, changed_word, old_values, old_values_of}
+use Rattle.trail.specs.Records.{differs, place_number, word_changed, word_place, word_value, changed_word, old_values, old_values_of}
 use Rattle.trail.proofs.Marks.{marks}
 use Rattle.trail.proofs.RecordRestores.{Touched, kept, put, with_own_word, word_put, place_back}
 use Rattle.seeking.specs.Seeking.{names, holds}

@@ -1,11 +1,11 @@
 -- One law for each way out of `names` and `holds`; and a number that names a place is that place's, and no other's.
 -- Assumes nothing.
-use Prim.Native.Nat.{ℕ, ◌+◌, ◌-◌, ◌/◌, ◌%◌, ◌^◌, ◌<◌, ◌≤◌}
-use mathlib.Core.Path.{◌≡◌, refl, ap, sym, ◌∙◌}
+use Prim.Native.Nat.{ℕ, ◌-◌, ◌/◌, ◌%◌, ◌^◌, ◌<◌, ◌≤◌}
+use mathlib.Core.Path.{◌≡◌, ap, sym, ◌∙◌}
 use mathlib.Core.Bool.{Bool, true, false, cond}
 use native.Mathlib.Omega.{arith}
 use lib.Dec.{ltb, eqb}
-use borrow.Author.Tests.{ltb-true, ltb-false, lt-ltb, le-ltb, eq-eqb, ne_eqb, eqb-true}
+use borrow.Author.Tests.{lt-ltb, le-ltb, eq-eqb, ne_eqb, eqb-true}
 use Rattle.report.specs.Parts.{Where}
 use Rattle.machine.specs.Held.{where_of}
 use Rattle.machine.specs.declared.MainAddress.{MainAddress}
@@ -13,7 +13,7 @@ use Rattle.machine.specs.declared.PortNumber.{PortNumber}
 use Rattle.machine.specs.declared.Place.{Place}
 use Rattle.machine.specs.declared.Place.TheVariants.{Main, Port}
 use Rattle.trail.specs.declared.OldValues.{OldValues}
-use Rattle.trail.specs.Records.{marked, where_of_number}
+use Rattle.trail.specs.Records.{where_of_number}
 use Rattle.seeking.specs.Seeking.{names, holds}
 
 module _ (q : Place) (n : ℕ) where

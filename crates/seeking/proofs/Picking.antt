@@ -8,8 +8,7 @@ use native.Mathlib.Omega.{arith}
 use lib.ListN.{length}
 use Rattle.machine.specs.declared.Place.{Place}
 use Rattle.trail.specs.declared.OldValues.{OldValues}
-use Rattle.seeking.specs.declared.Sought.{Sought}
-use Rattle.seeking.specs.declared.Sought.TheVariants.{Found, Never, CountTooLarge, Broken}
+use Rattle.seeking.specs.declared.Sought.TheVariants.{Found, Never}
 use Rattle.seeking.specs.Seeking.{holds, pick, NoneHolds, Picked}
 
 -- The same, where the first of the list is `back` operations back.

@@ -1,12 +1,11 @@
 -- The walk by rules, and what the loop keeps.
 -- Assumes nothing.
-use Prim.Native.Nat.{ℕ, zero, suc, ◌+◌, ◌-◌, ◌^◌, ◌<◌, ◌≤◌}
+use Prim.Native.Nat.{ℕ, zero, suc, ◌+◌, ◌^◌, ◌<◌, ◌≤◌}
 use mathlib.Core.Path.{◌≡◌, refl, ap, sym, ◌∙◌}
 use mathlib.Core.Bool.{Bool, true, false, cond}
-use mathlib.Core.List.{List, [], ◌∷◌}
+use mathlib.Core.List.{List}
 use native.Mathlib.Omega.{arith}
-use lib.Dec.{ltb}
-use lib.ListN.{length, get_or}
+use lib.ListN.{length}
 use borrow.Author.Tests.{lt-ltb, le-ltb}
 use Rattle.machine.specs.declared.Place.{Place}
 use Rattle.trail.specs.declared.OldValues.{OldValues}
@@ -16,9 +15,8 @@ use Rattle.trail.specs.Records.{marked, where_of_number}
 use Rattle.trail.specs.Newest.{fits, only_fitted, newest_fitted}
 use Rattle.trail.specs.Newest as trail_newest
 use Rattle.trail.proofs.NewestReadsBack.{newest_found, Fits}
-use Rattle.seeking.specs.declared.Sought.{Sought}
 use Rattle.seeking.specs.declared.Sought.TheVariants.{Found, Never, CountTooLarge, Broken}
-use Rattle.seeking.specs.Seeking.{holds, by_newest, if_any, among, from_end, sought}
+use Rattle.seeking.specs.Seeking.{holds, by_newest, among, from_end, sought}
 
 -- ---- fewer bytes stand before a record
 

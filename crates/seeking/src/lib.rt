@@ -1,5 +1,6 @@
 // Which operation hit this word (document 02, W7): the newest record that holds a place, and how many operations back it is. Nothing is written here.
 #![tactic(auto)]
+
 ghost use Rattle.std.specs.Prelude.{◌≡◌};
 ghost use Rattle.seeking.specs.Seeking.{names as names_of, holds as holds_of, sought};
 

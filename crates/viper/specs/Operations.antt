@@ -1,9 +1,9 @@
 -- Document 01: the operations step, reset, force and set a word, what each does to a bench, and when each call is refused.
 -- Assumes nothing.
-use Rattle.std.specs.Prelude.{ℕ, ◌+◌, ◌-◌, ◌^◌, Bool, true, false, not, ◌&&◌, ◌||◌, List, eqb, leb, ltb, length}
+use Rattle.std.specs.Prelude.{ℕ, ◌+◌, ◌-◌, ◌^◌, Bool, true, false, ◌&&◌, ◌||◌, List, eqb, leb, ltb, length}
 use Rattle.std.proofs.Math.Option.{Option, none, some}
 use Rattle.report.specs.Section3.{State, NEXT}
-use Rattle.report.specs.Parts.{Where, fitted, with_word, written}
+use Rattle.report.specs.Parts.{Where, with_word, written}
 use Rattle.machine.specs.Held.{where_of}
 use Rattle.machine.specs.declared.Place.{Place}
 use Rattle.trail.specs.declared.Kind.TheVariants as kind

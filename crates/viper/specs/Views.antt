@@ -1,6 +1,6 @@
 -- Document 01: a view answers n words from an address, as a stretch of the main store or of the port store.
 -- Assumes nothing.
-use Rattle.std.specs.Prelude.{ℕ, ◌+◌, ◌-◌, Bool, cond, List, [], leb, length, take, drop}
+use Rattle.std.specs.Prelude.{ℕ, ◌+◌, Bool, cond, List, [], leb, length, take, drop}
 use Rattle.machine.specs.declared.Place.{Place}
 use Rattle.machine.specs.declared.Place.TheVariants.{Main, Port}
 

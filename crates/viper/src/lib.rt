@@ -2,6 +2,7 @@
 // The machine goes in and comes back by value; the two stores and the trail are lent. No call has a `requires`: bad input is refused,
 // and a refused call changes nothing.
 #![tactic(auto)]
+
 pub mod back;
 pub mod calls;
 pub mod views;

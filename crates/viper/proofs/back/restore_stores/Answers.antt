@@ -1,0 +1,88 @@
+-- Refusals 1 to 3, 7 and 8, or the old values of the newest record: a short one, or a longer.
+use Prim.{tt}
+use Prim.Native.Nat.{◌<◌, ◌≤◌}
+use native.Mathlib.Omega.{arith}
+use lib.ListN.{length}
+use Rattle.machine.specs.Held.{ram}
+use Rattle.viper.specs.declared.Marked.TheVariants.{Any}
+use Rattle.viper.proofs.Exits.{passed, back_first, back-nothing, back-broken, back-refits}
+use Rattle.viper.proofs.Finding.{restores, nothing-marked, a-marked, x-marked, y-marked, short-broken}
+use Rattle.viper.proofs.back.restore_stores.Goals as goal
+
+pub returns-in-Refused : goal.returns-in-Refused
+returns-in-Refused c =
+    let a = c.args in
+    let j = c.judge-first in
+    back_first a.m a.main.now a.ports.now a.trail.now a.used j.result j.ensures c.in-Refused.r c.in-Refused.is
+
+pub returns-then-used-eq0 : goal.returns-then-used-eq0
+returns-then-used-eq0 c =
+    let a = c.args in
+    let j = c.judge-first in
+    back-nothing a.m a.main.now a.ports.now a.trail.now a.used j.result j.ensures c.in_default.is c.if-used-eq0.true
+
+pub read_short-short-requires : goal.read_short-short-requires
+read_short-short-requires c =
+    let reading : let a = c.args in (0 < a.used) × (a.used ≤ length a.trail.now) = let a = c.args in
+    let j = c.judge-first in
+    let l = passed a.m.p (length a.main.now) (length a.ports.now) (length a.trail.now) a.used j.result j.ensures c.in_default.is in
+    let z = c.if-used-eq0.false in
+    (omega arith, l.used_le) in
+    reading
+
+pub returns-in-Kept : goal.returns-in-Kept
+returns-in-Kept c =
+    let a = c.args in
+    let j = c.judge-first in
+    nothing-marked a.m a.main.now a.ports.now a.trail.now a.used j.result j.ensures c.in_default.is c.if-used-eq0.false c.read_short-short.result _ (c.read_short-short.ensures (length a.main.now) (length a.ports.now)) c.in-Kept.o c.in-Kept.left c.in-Kept.is
+
+pub returns-in-A : goal.returns-in-A
+returns-in-A c =
+    let a = c.args in
+    let j = c.judge-first in
+    a-marked a.m a.main.now a.ports.now a.trail.now a.used j.result j.ensures c.in_default.is c.if-used-eq0.false c.read_short-short.result _ (c.read_short-short.ensures (length a.main.now) (length a.ports.now)) c.in-A.o c.in-A.left c.in-A.is
+
+pub returns-in-X : goal.returns-in-X
+returns-in-X c =
+    let a = c.args in
+    let j = c.judge-first in
+    x-marked a.m a.main.now a.ports.now a.trail.now a.used j.result j.ensures c.in_default.is c.if-used-eq0.false c.read_short-short.result _ (c.read_short-short.ensures (length a.main.now) (length a.ports.now)) c.in-X.o c.in-X.left c.in-X.is
+
+pub returns-in-Y : goal.returns-in-Y
+returns-in-Y c =
+    let a = c.args in
+    let j = c.judge-first in
+    y-marked a.m a.main.now a.ports.now a.trail.now a.used j.result j.ensures c.in_default.is c.if-used-eq0.false c.read_short-short.result _ (c.read_short-short.ensures (length a.main.now) (length a.ports.now)) c.in-Y.o c.in-Y.left c.in-Y.is
+
+pub returns-in-Broken : goal.returns-in-Broken
+returns-in-Broken c =
+    let a = c.args in
+    let j = c.judge-first in
+    short-broken a.m a.main.now a.ports.now a.trail.now a.used j.result j.ensures c.in_default.is c.if-used-eq0.false c.read_short-short.result _ (c.read_short-short.ensures (length a.main.now) (length a.ports.now)) c.in-Broken.is
+
+pub newest-requires : goal.newest-requires
+newest-requires c =
+    let reading : let a = c.args in (0 < a.used) × (a.used ≤ length a.trail.now) = let a = c.args in
+    let j = c.judge-first in
+    let l = passed a.m.p (length a.main.now) (length a.ports.now) (length a.trail.now) a.used j.result j.ensures c.in_default.is in
+    let z = c.if-used-eq0.false in
+    (omega arith, l.used_le) in
+    reading
+
+pub returns-in_default-newest : goal.returns-in_default-newest
+returns-in_default-newest c =
+    let a = c.args in
+    let j = c.judge-first in
+    back-broken a.m a.main.now a.ports.now a.trail.now a.used j.result j.ensures c.in_default.is c.if-used-eq0.false c.newest.result c.newest.ensures c.in_default-newest.is
+
+pub word_restored-requires : goal.word_restored-requires
+word_restored-requires c =
+    let a = c.args in
+    let j = c.judge-first in
+    back-refits a.m a.main.now a.ports.now a.trail.now a.used j.result j.ensures c.in_default.is c.if-used-eq0.false c.newest.result c.in-Record.o c.in-Record.left c.newest.ensures c.in-Record.is
+
+pub returns-in-Longer : goal.returns-in-Longer
+returns-in-Longer c =
+    let a = c.args in
+    let j = c.judge-first in
+    restores a.m a.main.now a.ports.now a.trail.now a.used j.result j.ensures c.in_default.is c.if-used-eq0.false c.newest.result c.in-Record.o c.in-Record.left Any (ram c.word_restored.new.main c.word_restored.new.ports) c.newest.ensures c.in-Record.is c.word_restored.ensures tt

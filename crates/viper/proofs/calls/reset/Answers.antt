@@ -1,0 +1,8 @@
+-- The record and the answer are those of `note` at that machine.
+use mathlib.Core.Path.{◌∙◌}
+use Rattle.machine.specs.Held.{ram}
+use Rattle.viper.proofs.Exits.{reset_is}
+use Rattle.viper.proofs.calls.reset.Goals as goal
+
+pub returns : goal.returns
+returns c = λ main ports. c.note.ensures main ports ∙ reset_is c.args.m (ram main ports) c.args.trail.now c.args.used
