@@ -8,7 +8,6 @@ use native.Mathlib.Omega.{arith}
 use native.Mathlib.Nat.{zero-add}
 use borrow.Author.Tests.{lt-ltb}
 use Rattle.text.specs.Digits.{digit, hex}
-use Rattle.text.specs.Digits.{digit_value}
 use Rattle.counter.specs.Routine.{line_after, first_line}
 use Rattle.counter.specs.declared.routine.Line.TheVariants.{Word}
 use Rattle.text.proofs.Digits.{sixteens}

@@ -1,5 +1,6 @@
 // What bench reads and prints (document 01, "The counter program"): a routine from lines of hex, and the lines that tell what came of it.
 #![tactic(auto)]
+
 mod lines;
 mod routine;
 
