@@ -1,7 +1,7 @@
 -- What the first line says, by which store's name it begins with; and the eleven bytes that it has.
 -- Assumes nothing.
-use Prim.Native.Nat.{ℕ, zero, suc, ◌+◌, ◌*◌, ◌≤◌}
-use mathlib.Core.Path.{◌≡◌, refl, ap, sym, ◌∙◌}
+use Prim.Native.Nat.{ℕ, ◌≤◌}
+use mathlib.Core.Path.{◌≡◌}
 use mathlib.Core.Bool.{Bool, true, false, ◌&&◌}
 use mathlib.Core.List.{List, [], ◌∷◌}
 use native.Mathlib.Omega.{arith}
@@ -13,7 +13,6 @@ use Rattle.text.specs.Stands.{begins}
 use Rattle.counter.specs.Routine.{line_after}
 use Rattle.counter.specs.declared.routine.Line.{Line}
 use Rattle.counter.specs.declared.routine.Line.TheVariants as line
-use Rattle.asking.specs.declared.place.Asked.{Asked}
 use Rattle.asking.specs.declared.place.Asked.TheVariants.{Word, IllFormed}
 use Rattle.asking.specs.Asking.{asked, main_by, port_by}
 
