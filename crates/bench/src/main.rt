@@ -1,27 +1,28 @@
 // bench, the counter program (document 01, "The counter program"): it runs a routine from standard input, tells what came of it,
 // takes every step back, and tells that too.
 #![tactic(auto)]
+
 use counter::Loaded;
-use libc::{STDIN_FILENO, STDOUT_FILENO};
 use machine::Machine;
+use std::io;
 use viper::{Answer, RunAnswer};
 
 // The most steps of a run.
 const BUDGET: u32 = 300;
 
 // The text is read up to one byte more than 8,192 lines have: these bytes decide which line is the first bad one.
-fn main() {
+fn main(rt: HostRuntime) -> io::Result<()> {
     let mut text = [0u8; 73729];
-    let read = io::read_full(STDIN_FILENO, &mut text);
+    let read = console::read_full(&mut rt.stdin(), &mut text)?;
     let mut main = [0u32; 8192];
     let loaded = counter::load(&text[..read], &mut main);
     match loaded {
         Loaded::Words(_) => {
             let mut ports = [0u32; 256];
             let mut trail = [0u8; 4096];
-            run_and_take_back(&mut main, &mut ports, &mut trail);
+            run_and_take_back(&rt, &mut main, &mut ports, &mut trail)
         }
-        Loaded::BadLine(n) => print_bad(n),
+        Loaded::BadLine(n) => print_bad(&rt, n),
     }
 }
 
@@ -37,15 +38,20 @@ fn cleared() -> Machine {
 }
 
 // Runs the routine in main, prints, takes back, and prints again.
-fn run_and_take_back(main: &mut [u32], ports: &mut [u32], trail: &mut [u8]) {
+fn run_and_take_back(
+    rt: &impl Print,
+    main: &mut [u32],
+    ports: &mut [u32],
+    trail: &mut [u8],
+) -> io::Result<()> {
     let ran = viper::calls::run(cleared(), main, ports, trail, 0, BUDGET);
     let after = ran.machine;
     let answer = ran.answer;
     let used = ran.used;
-    print_run(answer, after, used);
+    print_run(rt, answer, after, used)?;
     let taken = take_back_all(after, main, ports, trail, used);
     let before = taken.machine;
-    print_back(taken.count, before, taken.used);
+    print_back(rt, taken.count, before, taken.used)
 }
 
 // What taking back until it is refused leaves: the machine, the bytes in use, and how many records were taken back.
@@ -88,23 +94,23 @@ fn take_back_all(
     }
 }
 
-fn print_run(answer: RunAnswer, m: Machine, used: usize) {
+fn print_run(rt: &impl Print, answer: RunAnswer, m: Machine, used: usize) -> io::Result<()> {
     let RunAnswer::Ended(steps, ending) = answer else {
-        return;
+        return Ok(());
     };
     let mut line = [0u8; 160];
     let n = counter::run_line(&mut line, steps, ending, m, used);
-    io::write_all(STDOUT_FILENO, &line[..n]);
+    rt.write_all(&line[..n])
 }
 
-fn print_back(count: usize, m: Machine, used: usize) {
+fn print_back(rt: &impl Print, count: usize, m: Machine, used: usize) -> io::Result<()> {
     let mut line = [0u8; 160];
     let n = counter::back_line(&mut line, count, m, used);
-    io::write_all(STDOUT_FILENO, &line[..n]);
+    rt.write_all(&line[..n])
 }
 
-fn print_bad(n: usize) {
+fn print_bad(rt: &impl Print, n: usize) -> io::Result<()> {
     let mut line = [0u8; 160];
     let n = counter::bad_line(&mut line, n);
-    io::write_all(STDOUT_FILENO, &line[..n]);
+    rt.write_all(&line[..n])
 }

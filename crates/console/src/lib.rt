@@ -1,0 +1,22 @@
+// Standard input into a buffer, for the programs: what is past the buffer's end stays unread.
+#![tactic(auto)]
+
+ghost use Rattle.std.specs.Prelude.{◌≤◌, length, IfOk};
+
+use std::io;
+use std::io::Read;
+
+// Reads until the buffer is full or the input ends, and answers how many bytes stand at the buffer's start. A read that fails is answered with its error.
+pub fn read_full<R: Read>(from: &mut R, bytes: &mut [u8]) -> io::Result<usize>
+    ensures { IfOk result (λ n. n ≤ length bytes.new) }
+{
+    let mut done: usize = 0;
+    while done < bytes.len() {
+        let n = from.read(&mut bytes[done..])?;
+        if n == 0 {
+            break;
+        }
+        done += n;
+    }
+    Ok(done)
+}
