@@ -1,6 +1,6 @@
 -- Hex digits, capitals only, and the byte that two of them stand for.
 -- Assumes nothing.
-use Rattle.std.specs.Prelude.{ℕ, ◌+◌, ◌*◌, ◌-◌, ◌/◌, ◌%◌, cond, ◌&&◌, List, [], ◌∷◌, ltb, get_or}
+use Rattle.std.specs.Prelude.{ℕ, ◌+◌, ◌*◌, ◌/◌, ◌%◌, cond, ◌&&◌, List, [], ◌∷◌, ltb, get_or}
 use Rattle.text.specs.Digits.{digit, digit_value}
 
 -- The two digits of a byte.

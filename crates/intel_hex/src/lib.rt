@@ -1,5 +1,6 @@
 // Intel HEX (document 02, W4): main exported as an EPROM programmer reads it, and imported from what one writes.
 #![tactic(auto)]
+
 mod exporting;
 mod importing;
 mod lines;
