@@ -12,13 +12,13 @@ returns-then-i-eq0 c =
 
 pub put_upper-requires : goal.put_upper-requires
 put_upper-requires c =
-    let u = one_upper c.args.i (omega (arith, c.if-i-eq0.false)) c.if-i-eq0-2.true in
+    let u = one_upper c.args.i (omega (arith, c.if-i-eq0.false)) (omega arith) in
     (omega (arith, upper_length (c.args.i / 4096), rw u at c.requires.0), omega (arith, c.requires.1))
 
 pub returns-then-i-eq0-2 : goal.returns-then-i-eq0-2
 returns-then-i-eq0-2 c =
-    rw (one_upper c.args.i (omega (arith, c.if-i-eq0.false)) c.if-i-eq0-2.true) c.put_upper.ensures
+    rw (one_upper c.args.i (omega (arith, c.if-i-eq0.false)) (omega arith)) c.put_upper.ensures
 
 pub returns : goal.returns
 returns c =
-    rw (no_upper_within c.args.i c.if-i-eq0-2.false) (put_nothing c.args.at c.args.out.now)
+    rw (no_upper_within c.args.i (omega arith)) (put_nothing c.args.at c.args.out.now)

@@ -14,8 +14,8 @@ returns-then-text-at-ne58 c =
 
 pub returns-then-sum_at-ne0 : goal.returns-then-sum_at-ne0
 returns-then-sum_at-ne0 c =
-    no-sum-there c.args.text.now c.args.at c.if-text-at-ne58.false c.byte_at-count.ensures.0 c.sum_at.ensures c.if-sum_at-ne0.true
+    no-sum-there c.args.text.now c.args.at c.if-text-at-ne58.false c.byte_at-count.ensures.0 c.sum_at.ensures (omega arith)
 
 pub returns : goal.returns
 returns c =
-    ending-decides c.args.text.now c.args.at c.if-text-at-ne58.false c.byte_at-count.ensures.0 c.sum_at.ensures c.if-sum_at-ne0.false c.ending_at.ensures.0
+    ending-decides c.args.text.now c.args.at c.if-text-at-ne58.false c.byte_at-count.ensures.0 c.sum_at.ensures (omega arith) c.ending_at.ensures.0
