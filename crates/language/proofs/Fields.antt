@@ -4,20 +4,19 @@ use Prim.Native.Nat.{ℕ, zero, suc, ◌+◌, ◌-◌, ◌/◌, ◌%◌, ◌<◌
 use Prim.Native.Char.{code}
 use mathlib.Core.Path.{◌≡◌, refl, ap, sym, ◌∙◌}
 use mathlib.Core.Bool.{Bool, true, false, not, ◌&&◌}
-use mathlib.Core.List.{List, [], ◌∷◌, ◌++◌, append_assoc}
+use mathlib.Core.List.{List, [], ◌∷◌, ◌++◌}
 use native.Mathlib.Omega.{arith}
 use lib.Dec.{T, ltb, eqb}
 use lib.ListN.{length, take, drop, length-append}
 use lib.Seq.{take_at, drop_at}
-use borrow.Author.Tests.{ltb-true, ltb-false, ne_eqb}
+use borrow.Author.Tests.{ne_eqb}
 use Rattle.report.specs.Parts as parts
 use Rattle.report.proofs.Finite.{all, below}
 use Rattle.text.specs.Text.{text}
 use Rattle.text.specs.Digits.{digit, hex}
-use Rattle.text.proofs.Digits.{hex_length}
 use Rattle.language.specs.declared.forms.Form.{Form}
 use Rattle.language.specs.declared.forms.Form.TheVariants.{Word, Comparison, Write, Shift, Unary, Binary}
-use Rattle.language.specs.Names.{before_first, split, destination_name, function_name, shift_name, comparison_name, register_name}
+use Rattle.language.specs.Names.{split, destination_name, function_name, shift_name, comparison_name, register_name}
 use Rattle.language.specs.Line.{fields_of, operand, fields_by, fields, form, spaced, line}
 
 clash : {A : Type 0} → ◌≡◌ {A = ℕ} 0 1 → A

@@ -2,8 +2,8 @@
 -- Assumes nothing.
 use Prim.Native.Nat.{ℕ, zero, suc, ◌+◌, ◌*◌, ◌/◌, ◌^◌, ◌<◌}
 use mathlib.Core.Path.{◌≡◌, refl, ap, sym, subst, ◌∙◌}
-use mathlib.Core.Bool.{Bool, true, false, not, cond, ◌&&◌, ◌||◌, beq}
-use mathlib.Core.List.{List, [], ◌∷◌, ◌++◌}
+use mathlib.Core.Bool.{Bool, true, false, not, cond, ◌||◌, beq}
+use mathlib.Core.List.{List, [], ◌∷◌}
 use native.Mathlib.Omega.{arith}
 use lib.Dec.{T, eqb, leb, eqb→eq}
 use lib.ListN.{length, get_or, take, drop}
@@ -16,7 +16,7 @@ use Rattle.text.proofs.ReadBack.{number_again, same_digits}
 use Rattle.language.specs.declared.forms.Form.{Form}
 use Rattle.language.specs.declared.forms.Form.TheVariants.{Word, Comparison, Write, Shift, Unary, Binary}
 use Rattle.language.specs.Names.{split, destination_name, function_name, shift_name, comparison_name, register_name}
-use Rattle.language.specs.Line.{fields_of, operand, fields_by, fields, form, spaced, line}
+use Rattle.language.specs.Line.{fields_of, operand, fields_by, fields, form, line}
 use Rattle.language.proofs.Shapes.{Told, told}
 use Rattle.language.proofs.Fields.{same_fields}
 
