@@ -1,4 +1,4 @@
--- A word is listed as WORD exactly if it always halts or its ignored bits are not zero (`word-exactly`): the definition's branches, one by one. Then the counts.
+-- A word is listed as WORD exactly if it always halts or its ignored bits are not zero (`word_exactly`): the definition's branches, one by one. Then the counts.
 -- Assumes nothing.
 use Prim.Native.Nat.{ℕ, zero, suc, ◌+◌, ◌*◌, ◌^◌}
 use mathlib.Core.Path.{◌≡◌, refl}

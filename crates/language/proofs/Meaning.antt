@@ -1,4 +1,4 @@
--- What the names of a line say of a step (`names-say`): the first name is that of the word's class, and the part of document 01's order that the
+-- What the names of a line say of a step (`names_say`): the first name is that of the word's class, and the part of document 01's order that the
 -- step comes to is the one of that class. So what is named CMP is compared, MEM and IO write, and so on for each of the ten classes.
 -- Assumes nothing.
 use Prim.Native.Nat.{ℕ, zero, suc, ◌<◌}

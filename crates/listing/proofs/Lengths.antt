@@ -1,4 +1,4 @@
--- How long the fields of a line are. A line has 14 to 24 bytes, its line feed counted (`line-bounds`), and a listing of n words at most 24 n.
+-- How long the fields of a line are. A line has 14 to 24 bytes, its line feed counted (`line_bounds`), and a listing of n words at most 24 n.
 -- Assumes nothing.
 use Prim.Native.Nat.{ℕ, suc, ◌+◌, ◌≤◌, ◌<◌}
 use mathlib.Core.Path.{◌≡◌, refl}

@@ -1,6 +1,6 @@
 -- The listing of a main store (document 02, W1), and what a call of list answers and leaves.
 -- Assumes nothing.
-use Rattle.std.specs.Prelude.{ℕ, suc, ◌*◌, ◌^◌, ◌≡◌, Bool, cond, List, [], ◌∷◌, ◌++◌, ltb, length, drop}
+use Rattle.std.specs.Prelude.{ℕ, suc, ◌*◌, ◌^◌, ◌≡◌, cond, List, [], ◌∷◌, ◌++◌, ltb, length, drop}
 use Rattle.language.specs.Line.{line}
 use Rattle.listing.specs.declared.store.Listed.{Listed}
 use Rattle.listing.specs.declared.store.Listed.TheVariants.{Bytes, StoreTooLong, OutputTooShort}
@@ -13,7 +13,7 @@ lines address (w ∷ words) = line address w ++ lines (suc address) words
 abbrev pub listing : List ℕ → List ℕ
 listing main = lines 0 main
 
--- A line has at most 24 bytes: n lines have at most so many (`listing-at-most` in proofs/Lengths.antt).
+-- A line has at most 24 bytes: n lines have at most so many (`listing_at_most` in proofs/Lengths.antt).
 abbrev pub most_bytes : ℕ → ℕ
 most_bytes n = 24 * n
 

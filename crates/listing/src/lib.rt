@@ -1,5 +1,6 @@
 // The listing (document 02, W1): a main store as lines, one a word, with names instead of digits.
 #![tactic(auto)]
+
 mod line;
 mod store;
 
