@@ -63,12 +63,15 @@ def declared(text):
         m = re.match(r"(?:abbrev |unfoldable )?(?:pub )?([^\s:(){}]+) : (?!tie\.|goal\.|statement )", line)
         if m:
             yield m.group(1)
-        m = re.match(r"(?:pub )?(?:record|data|ruleset) ([^\s:(){}]+)", line)
+        m = re.match(r"\s*(?:pub )?(?:record|data|ruleset|module) ([^\s:(){}]+)", line)
         if m:
             yield m.group(1)
         m = re.match(r"  (?:pub )?((?:[^\s:(){}=]+ )+): ", line)
         if m:
             yield from m.group(1).split()
+        m = re.match(r"\s+(?:abbrev |unfoldable )?(?:pub )?([^\s:(){}=,]+) : ", line)
+        if m:
+            yield m.group(1)
         m = re.match(r"infix[lr]? \d+ ([^\s]+)", line)
         if m:
             yield m.group(1)
@@ -99,15 +102,23 @@ def clause_lines(text):
 def turn_line(line, names, kept):
     cut = COMMENT.search(line)
     body, rest = (line[: cut.start()], line[cut.start():]) if cut else (line, "")
+    rest = re.sub(r"`[^`\n]*`", lambda m: turn_line(m.group(), names, kept), rest)
     return WORD.sub(lambda m: new_name(m.group()) if m.group() in names and m.group() not in kept else m.group(), body) + rest
 
 
 def main():
     names = set()
     for path in files((".antt", ".rt")):
+        if path.endswith(("/Answers.antt", "/Invariants.antt")):
+            continue  # the names there are the check's own
         text = text_of(path)
         names.update(n for n in declared(text) if is_own(n))
         names.update(a for _, _, a in uses(text) if a and is_own(a))
+        if path.endswith(".antt") and not path.endswith("/Proof.antt"):
+            # what else a lemma file or a definition names with a dash, and no library gave it: its variables and its local lemmas
+            foreign = {alias or name for module, name, alias in uses(text) if not own_module(module)}
+            words = {w for line in text.split("\n") for w in WORD.findall(COMMENT.sub("", line))}
+            names.update(w for w in words - foreign if is_own(w) and re.search("[a-z]", w))
     if "--list" in sys.argv:
         print("\n".join(sorted(names)))
         return 0

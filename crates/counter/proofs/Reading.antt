@@ -29,15 +29,15 @@ module _ (text : List ℕ) (at k v : ℕ) where
     pub no_digit : 16 ≤ digit_value (get_or text at 0) → line_after (suc k) v (drop at text) ≡ IllFormed
     no_digit h = rw (drop-cons text at 0 more, le-ltb (digit_value (get_or text at 0)) 16 h)
 
-    pub one-digit : digit_value (get_or text at 0) < 16
+    pub one_digit : digit_value (get_or text at 0) < 16
         → line_after (suc k) v (drop at text) ≡ line_after k (v * 16 + digit_value (get_or text at 0)) (drop (at + 1) text)
-    one-digit h = rw (drop-cons text at 0 more, lt-ltb (digit_value (get_or text at 0)) 16 h, add-one)
+    one_digit h = rw (drop-cons text at 0 more, lt-ltb (digit_value (get_or text at 0)) 16 h, add-one)
 
     pub line_feed : get_or text at 0 ≡ 10 → line_after 0 v (drop at text) ≡ Word v
     line_feed h = rw (drop-cons text at 0 more, eq-eqb (get_or text at 0) 10 h)
 
-    pub no-line-feed : (get_or text at 0 ≡ 10 → ⊥) → line_after 0 v (drop at text) ≡ IllFormed
-    no-line-feed h = rw (drop-cons text at 0 more, ne_eqb (get_or text at 0) 10 h)
+    pub no_line_feed : (get_or text at 0 ≡ 10 → ⊥) → line_after 0 v (drop at text) ≡ IllFormed
+    no_line_feed h = rw (drop-cons text at 0 more, ne_eqb (get_or text at 0) 10 h)
 
 -- Two constructors are never equal: `cc` makes 0 ≡ 1 of it, and anything follows.
 clash : {A : Type 0} → ◌≡◌ {A = ℕ} 0 1 → A

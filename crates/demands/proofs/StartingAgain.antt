@@ -9,7 +9,7 @@ use Rattle.intel_hex.proofs.Words.{imported_in_range, imported_length}
 use Rattle.intel_hex.proofs.Theorems.{accepted_starts_again}
 use Rattle.viper.specs.Operations.{Bench, Operation}
 use Rattle.demands.specs.Histories.{Valid, Sizes, History, Session, StartsAgain, imports, Begins, opened, again}
-use Rattle.demands.proofs.ThirdDemand.{valid_now, kept-session, session_history}
+use Rattle.demands.proofs.ThirdDemand.{valid_now, kept_session, session_history}
 
 -- What starts it again keeps the bench valid and its sizes, and leaves no byte of the trail in use.
 again_valid : {b next : Bench} → Valid b.state → StartsAgain b next → Valid next.state
@@ -40,7 +40,7 @@ module _ (b₀ : Bench) (ok : Valid b₀.state) (z : b₀.used ≡ 0) where
   begins_lawful opened = (ok, z)
   begins_lawful (again {start = start} {b = b} {l = l} begun session renewed) =
       let s = begins_lawful begun in
-      (again_valid (valid_now start s.0 b l (kept-session start s.0 s.1 session)) renewed, again_empty renewed)
+      (again_valid (valid_now start s.0 b l (kept_session start s.0 s.1 session)) renewed, again_empty renewed)
 
   -- From the newest start on, the machine and both stores are what the operations still listed give, and the trail in use is their records.
   pub history_again : {start b : Bench} {l : List Operation} → Begins b₀ start → Session start b l → History start b l

@@ -24,7 +24,7 @@ use Rattle.viper.specs.declared.Refusal.{Refusal}
 use Rattle.viper.specs.declared.Refusal.TheVariants.{PTooLarge, StoreTooLong, CountTooLarge, Stopped, Unfitted, TrailFull, NothingInUse, BrokenRecord}
 use Rattle.viper.specs.declared.Answer.{Answer}
 use Rattle.viper.specs.declared.Answer.TheVariants.{Done, Refused}
-use Rattle.viper.specs.Refusals.{number, if-done}
+use Rattle.viper.specs.Refusals.{number, if_done}
 use Rattle.viper.specs.Operations.{Bench, Operation, step, Call, operate, run, back, next, kind_of, writes_at, record_for, unfitted, broken, newest_of, applies, answer, done, Outcome, outcome}
 use Rattle.viper.specs.Runs.{Ran, ends, stepped, unless_stopped, over_and_over, RunOutcome, run_by, run_outcome}
 use Rattle.viper.specs.TakingBack.{put_back, back_outcome}
@@ -106,7 +106,7 @@ done_sizes e b ok a =
 operation_sizes : (e : Operation) (b : Bench) → Valid b.state → Sizes b (outcome e b).bench
 operation_sizes e b ok = go (answer (operate e) b) refl
   where
-    go : (a : Answer) → answer (operate e) b ≡ a → Sizes b (if-done a (done e b) b)
+    go : (a : Answer) → answer (operate e) b ≡ a → Sizes b (if_done a (done e b) b)
     go Done h = done_sizes e b ok h
     go (Refused r) h = same_sizes b
 
@@ -149,7 +149,7 @@ put_back_sizes Broken b = same_sizes b
 back_sizes : (b : Bench) → Sizes b (back_outcome b).bench
 back_sizes b = go (answer back b)
   where
-    go : (a : Answer) → Sizes b (if-done a (put_back (newest_of b) b) b)
+    go : (a : Answer) → Sizes b (if_done a (put_back (newest_of b) b) b)
     go Done = put_back_sizes (newest_of b) b
     go (Refused r) = same_sizes b
 
@@ -181,7 +181,7 @@ module _ (b₀ : Bench) (ok : Valid b₀.state) where
   kept_operation : (e : Operation) (b : Bench) (l : List Operation) → Typed e → Kept b₀ b l → Kept b₀ (outcome e b).bench (noted e (outcome e b).answered l)
   kept_operation e b l t k = go (answer (operate e) b) refl
     where
-      go : (a : Answer) → answer (operate e) b ≡ a → Kept b₀ (if-done a (done e b) b) (if-done a (e ∷ l) l)
+      go : (a : Answer) → answer (operate e) b ≡ a → Kept b₀ (if_done a (done e b) b) (if_done a (e ∷ l) l)
       go Done h = kept_done e b l t k h
       go (Refused r) h = k
 
@@ -219,18 +219,18 @@ module _ (b₀ : Bench) (ok : Valid b₀.state) where
     abbrev was : State
     was = through l b₀.state
 
-    valid-then : Valid was
-    valid-then = through_valid l b₀.state ok k.fair.2
+    valid_then : Valid was
+    valid_then = through_valid l b₀.state ok k.fair.2
 
     -- the newest record is that of the newest operation listed
-    newest-is : newest_of b ≡ Record (old_values_of (kind_of e) was (next e was) (writes_at e was)) (length (trace l b₀.state))
-    newest-is =
+    newest_is : newest_of b ≡ Record (old_values_of (kind_of e) was (next e was) (writes_at e was)) (length (trace l b₀.state))
+    newest_is =
         let h = k.history in
-        let u = undoes e was valid-then k.fair.0 in
+        let u = undoes e was valid_then k.fair.0 in
         newest_in_use _ _ b.trail b.used (trace l b₀.state) h.within h.in_use u.good (rw h.state u.fitting)
 
     restores : restored (old_values_of (kind_of e) was (next e was) (writes_at e was)) b.state ≡ was
-    restores = rw k.history.state (undoes e was valid-then k.fair.0).back
+    restores = rw k.history.state (undoes e was valid_then k.fair.0).back
 
     in_use_length : length (trace l b₀.state) + length (record_for e was) ≡ b.used
     in_use_length =
@@ -238,16 +238,16 @@ module _ (b₀ : Bench) (ok : Valid b₀.state) where
         ∙ ap length (sym k.history.in_use)
         ∙ length-take-le b.used b.trail k.history.within
 
-    some-in-use : b.used ≡ 0 → ⊥
-    some-in-use z = omega (arith, in_use_length, some_bytes e was)
+    some_in_use : b.used ≡ 0 → ⊥
+    some_in_use z = omega (arith, in_use_length, some_bytes e was)
 
-    kept-struck : Kept b₀ (put_back (newest_of b) b) l
-    kept-struck =
+    kept_struck : Kept b₀ (put_back (newest_of b) b) l
+    kept_struck =
         let h = k.history in
         let r = trace l b₀.state in
         let less : length r ≤ b.used = omega (arith, in_use_length) in
-        let z = touched_sizes (touched e was valid-then k.fair.0) in
-        rw (newest-is, restores)
+        let z = touched_sizes (touched e was valid_then k.fair.0) in
+        rw (newest_is, restores)
         (record {
           history =
               record {
@@ -278,23 +278,23 @@ module _ (b₀ : Bench) (ok : Valid b₀.state) where
       (record { itself = eq-eqb b.used 0 (none_in_use b k); no_lower = below_seven b (lawful_now b [] k) })
   back_answer b (e ∷ l) k =
       (accepted_none back b).1
-      (from_seven b (lawful_now b (e ∷ l) k) (ne_eqb b.used 0 (some-in-use e b l k)) (ap broken (newest-is e b l k)))
+      (from_seven b (lawful_now b (e ∷ l) k) (ne_eqb b.used 0 (some_in_use e b l k)) (ap broken (newest_is e b l k)))
 
   pub kept_back : (b : Bench) (l : List Operation) → Kept b₀ b l → Kept b₀ (back_outcome b).bench (struck (back_outcome b).answered l)
   kept_back b [] k = rw (back_answer b [] k) k
-  kept_back b (e ∷ l) k = rw (back_answer b (e ∷ l) k) (kept-struck e b l k)
+  kept_back b (e ∷ l) k = rw (back_answer b (e ∷ l) k) (kept_struck e b l k)
 
   -- ---- a session keeps it
 
   module _ (z : b₀.used ≡ 0) where
-    pub kept-session : {b : Bench} {l : List Operation} → Session b₀ b l → Kept b₀ b l
-    kept-session begins = kept_start b₀ z
-    kept-session (operates {b = b} {l = l} e r main ports trail s t p) =
-        subst (λ (o : Outcome). Kept b₀ o.bench (noted e o.answered l)) (sym p) (kept_operation e b l t (kept-session s))
-    kept-session (runs {b = b} {l = l} n r main ports trail s p) =
-        subst (λ (o : RunOutcome). Kept b₀ o.bench (noted_run o.answered l)) (sym p) (kept_run n b l (kept-session s))
-    kept-session (takes_back {b = b} {l = l} r main ports trail s p) =
-        subst (λ (o : Outcome). Kept b₀ o.bench (struck o.answered l)) (sym p) (kept_back b l (kept-session s))
+    pub kept_session : {b : Bench} {l : List Operation} → Session b₀ b l → Kept b₀ b l
+    kept_session begins = kept_start b₀ z
+    kept_session (operates {b = b} {l = l} e r main ports trail s t p) =
+        subst (λ (o : Outcome). Kept b₀ o.bench (noted e o.answered l)) (sym p) (kept_operation e b l t (kept_session s))
+    kept_session (runs {b = b} {l = l} n r main ports trail s p) =
+        subst (λ (o : RunOutcome). Kept b₀ o.bench (noted_run o.answered l)) (sym p) (kept_run n b l (kept_session s))
+    kept_session (takes_back {b = b} {l = l} r main ports trail s p) =
+        subst (λ (o : Outcome). Kept b₀ o.bench (struck o.answered l)) (sym p) (kept_back b l (kept_session s))
 
   -- as many take-backs as operations are listed
   kept_all_back : (b : Bench) (l : List Operation) → Kept b₀ b l → Kept b₀ (after (replicate (length l) back) b) []
@@ -330,25 +330,25 @@ calls_session b₀ cs t = in_session cs b₀ [] t begins
 
 -- A take-back is accepted exactly when an operation is listed, and else refused by 7: after any calls,
 pub back_exactly : (b₀ : Bench) → Valid b₀.state → b₀.used ≡ 0 → (cs : List Call) → TypedCalls cs → answered back (after cs b₀) ≡ back_by (listed cs b₀)
-back_exactly b₀ ok z cs t = back_answer b₀ ok (after cs b₀) (listed cs b₀) (kept-session b₀ ok z (calls_session b₀ cs t))
+back_exactly b₀ ok z cs t = back_answer b₀ ok (after cs b₀) (listed cs b₀) (kept_session b₀ ok z (calls_session b₀ cs t))
 
 -- and in any session.
 pub session_back_exactly : (b₀ : Bench) → Valid b₀.state → b₀.used ≡ 0 → {b : Bench} {l : List Operation} → Session b₀ b l → answered back b ≡ back_by l
-session_back_exactly b₀ ok z {b} {l} s = back_answer b₀ ok b l (kept-session b₀ ok z s)
+session_back_exactly b₀ ok z {b} {l} s = back_answer b₀ ok b l (kept_session b₀ ok z s)
 
 -- As many take-backs as operations are listed restore the machine and both stores of the start, and the empty trail: after any calls,
 pub all_taken_back : (b₀ : Bench) → Valid b₀.state → b₀.used ≡ 0 → (cs : List Call) → TypedCalls cs
     → ((after (replicate (length (listed cs b₀)) back) (after cs b₀)).state ≡ b₀.state)
     × ((after (replicate (length (listed cs b₀)) back) (after cs b₀)).used ≡ 0)
 all_taken_back b₀ ok z cs t =
-    let k = kept_all_back b₀ ok (after cs b₀) (listed cs b₀) (kept-session b₀ ok z (calls_session b₀ cs t)) in
+    let k = kept_all_back b₀ ok (after cs b₀) (listed cs b₀) (kept_session b₀ ok z (calls_session b₀ cs t)) in
     (k.history.state, none_in_use b₀ ok (after (replicate (length (listed cs b₀)) back) (after cs b₀)) k)
 
 -- and in any session.
 pub session_all_taken_back : (b₀ : Bench) → Valid b₀.state → b₀.used ≡ 0 → {b : Bench} {l : List Operation} → Session b₀ b l
     → ((after (replicate (length l) back) b).state ≡ b₀.state) × ((after (replicate (length l) back) b).used ≡ 0)
 session_all_taken_back b₀ ok z {b} {l} s =
-    let k = kept_all_back b₀ ok b l (kept-session b₀ ok z s) in
+    let k = kept_all_back b₀ ok b l (kept_session b₀ ok z s) in
     (k.history.state, none_in_use b₀ ok (after (replicate (length l) back) b) k)
 
 -- Every call keeps the lengths of both stores and of the trail.
@@ -361,9 +361,9 @@ sizes_kept back b ok = back_sizes b
 
 -- Of any calls that meet their contracts.
 pub session_history : (b₀ : Bench) → Valid b₀.state → b₀.used ≡ 0 → {b : Bench} {l : List Operation} → Session b₀ b l → History b₀ b l
-session_history b₀ ok z s = (kept-session b₀ ok z s).history
+session_history b₀ ok z s = (kept_session b₀ ok z s).history
 
 -- From a valid machine with its stores, and a trail of which no byte is in use, whatever it holds; and for every list of calls, refused ones included:
 -- the machine and both stores are what the operations still listed give from the start, and the trail in use is their records, oldest first.
 pub history : (b₀ : Bench) → Valid b₀.state → b₀.used ≡ 0 → (cs : List Call) → TypedCalls cs → History b₀ (after cs b₀) (listed cs b₀)
-history b₀ ok z cs t = (kept-session b₀ ok z (calls_session b₀ cs t)).history
+history b₀ ok z cs t = (kept_session b₀ ok z (calls_session b₀ cs t)).history

@@ -30,7 +30,7 @@ use Rattle.demands.specs.Histories.{Valid, Session, through, struck, after}
 use Rattle.demands.specs.Hits.{made_by, changes, NoneChanges, Hit}
 use Rattle.demands.proofs.Undoing.{touched, touched_sizes, undoes}
 use Rattle.demands.proofs.WhoMadeThem.{made, FitRow, made_good, made_fit, trace_row}
-use Rattle.demands.proofs.ThirdDemand.{Fair, through_valid, Kept, kept-session, kept_back, back_answer}
+use Rattle.demands.proofs.ThirdDemand.{Fair, through_valid, Kept, kept_session, kept_back, back_answer}
 
 -- ---- a sound trail: its bytes in use are records in a row, and the places of all of them are fitted
 
@@ -177,53 +177,53 @@ module _ (b₀ : Bench) (ok : Valid b₀.state) where
 
   module _ (z : b₀.used ≡ 0) {b : Bench} {l : List Operation} (t : Session b₀ b l) (q : Place) where
     -- The answer is that of picking from the records of the operations still listed; so it is never a refusal.
-    pub session-find : sought_on b q ≡ pick q 1 (made l b₀.state)
-    session-find = found_kept q b l (kept-session b₀ ok z t)
+    pub session_find : sought_on b q ≡ pick q 1 (made l b₀.state)
+    session_find = found_kept q b l (kept_session b₀ ok z t)
 
     -- The count back n names the n-th newest operation still listed, and that is the newest listed that changed the word;
-    pub session-hit : (n : ℕ) (o : OldValues) → sought_on b q ≡ Found n o → Hit q l b₀.state n o
-    session-hit n o p =
-        let g = hit_from q 1 l b₀.state ok (kept-session b₀ ok z t).fair n o (sym session-find ∙ p) in
+    pub session_hit : (n : ℕ) (o : OldValues) → sought_on b q ≡ Found n o → Hit q l b₀.state n o
+    session_hit n o p =
+        let g = hit_from q 1 l b₀.state ok (kept_session b₀ ok z t).fair n o (sym session_find ∙ p) in
         record { newer = g.newer; operation = g.operation; older = g.older; whole = g.whole; count = g.count; values = g.values; changed = g.changed; not_since = g.not_since }
 
     -- if one did, it is found;
-    pub hit-found : (n : ℕ) (o : OldValues) → Hit q l b₀.state n o → sought_on b q ≡ Found n o
-    hit-found n o h =
+    pub hit_found : (n : ℕ) (o : OldValues) → Hit q l b₀.state n o → sought_on b q ≡ Found n o
+    hit_found n o h =
         let s = b₀.state in
-        let f : Fair (h.newer ++ (h.operation ∷ h.older)) s = subst (λ (x : List Operation). Fair x s) h.whole (kept-session b₀ ok z t).fair in
-        session-find
+        let f : Fair (h.newer ++ (h.operation ∷ h.older)) s = subst (λ (x : List Operation). Fair x s) h.whole (kept_session b₀ ok z t).fair in
+        session_find
         ∙ ap (λ (x : List Operation). pick q 1 (made x s)) h.whole
         ∙ picks_hit q 1 h.newer h.operation h.older s ok f h.changed h.not_since
         ∙ ap (λ (k : ℕ). Found k (made_by h.operation h.older s)) (sym h.count)
         ∙ ap (Found n) (sym h.values)
 
     -- and never means that none did.
-    pub session-never : sought_on b q ≡ Never → NoneChanges q l [] b₀.state
-    session-never p = never_from q 1 l b₀.state ok (kept-session b₀ ok z t).fair (sym session-find ∙ p)
+    pub session_never : sought_on b q ≡ Never → NoneChanges q l [] b₀.state
+    session_never p = never_from q 1 l b₀.state ok (kept_session b₀ ok z t).fair (sym session_find ∙ p)
 
     pub none_found : NoneChanges q l [] b₀.state → sought_on b q ≡ Never
-    none_found g = session-find ∙ none_from q 1 l b₀.state ok (kept-session b₀ ok z t).fair g
+    none_found g = session_find ∙ none_from q 1 l b₀.state ok (kept_session b₀ ok z t).fair g
 
     -- There is one.
-    pub hit-once : (n m : ℕ) (o e : OldValues) → Hit q l b₀.state n o → Hit q l b₀.state m e → (n ≡ m) × (o ≡ e)
-    hit-once n m o e f g =
-        let p : Found n o ≡ Found m e = sym (hit-found n o f) ∙ hit-found m e g in
+    pub hit_once : (n m : ℕ) (o e : OldValues) → Hit q l b₀.state n o → Hit q l b₀.state m e → (n ≡ m) × (o ≡ e)
+    hit_once n m o e f g =
+        let p : Found n o ≡ Found m e = sym (hit_found n o f) ∙ hit_found m e g in
         (cc, cc)
 
     module _ (n : ℕ) (o : OldValues) (h : Hit q l b₀.state n o) where
       listed_here : Kept b₀ b (h.newer ++ (h.operation ∷ h.older))
-      listed_here = subst (λ (x : List Operation). Kept b₀ b x) h.whole (kept-session b₀ ok z t)
+      listed_here = subst (λ (x : List Operation). Kept b₀ b x) h.whole (kept_session b₀ ok z t)
 
       -- n - 1 take-backs bring the bench to the state right after it,
-      pub right-after : (after (replicate (n - 1) back) b).state ≡ through (h.operation ∷ h.older) b₀.state
-      right-after =
+      pub right_after : (after (replicate (n - 1) back) b).state ≡ through (h.operation ∷ h.older) b₀.state
+      right_after =
           let m : n - 1 ≡ length h.newer = omega (arith, h.count) in
           ap (λ (k : ℕ). (after (replicate k back) b).state) m
           ∙ (kept_some_back h.newer b (h.operation ∷ h.older) listed_here).history.state
 
       -- n to the state right before it,
-      pub right-before : (after (replicate n back) b).state ≡ through h.older b₀.state
-      right-before =
+      pub right_before : (after (replicate n back) b).state ≡ through h.older b₀.state
+      right_before =
           let newer = h.newer ++ (h.operation ∷ []) in
           let m : n ≡ length newer = h.count ∙ sym (length-append h.newer (h.operation ∷ [])) in
           let k : Kept b₀ b (newer ++ h.older) = subst (λ (x : List Operation). Kept b₀ b x) (sym (append_assoc h.newer (h.operation ∷ []) h.older)) listed_here in
@@ -231,19 +231,19 @@ module _ (b₀ : Bench) (ok : Valid b₀.state) where
           ∙ (kept_some_back newer b h.older k).history.state
 
       -- and there the word has the value answered.
-      pub word-before : word_at (after (replicate n back) b).state.0 (where_of q) ≡ o.value
-      word-before =
+      pub word_before : word_at (after (replicate n back) b).state.0 (where_of q) ≡ o.value
+      word_before =
           let s = b₀.state in
           let e = h.operation in
           let was = through h.older s in
           let f = (kept_some_back h.newer b (e ∷ h.older) listed_here).fair in
           let held : holds q (made_by e h.older s) ≡ true = held_changed q e h.older s ok f ∙ h.changed in
-          ap (λ (x : State). word_at x.0 (where_of q)) right-before
+          ap (λ (x : State). word_at x.0 (where_of q)) right_before
           ∙ sym (value_before q (kind_of e) was (next e was) (writes_at e was) (touched e was (through_valid h.older s ok f.2) f.0) held)
           ∙ ap (λ (x : OldValues). x.value) (sym h.values)
 
       -- What stands there now is what it left.
-      pub word-now : word_at b.state.0 (where_of q) ≡ word_at (through (h.operation ∷ h.older) b₀.state).0 (where_of q)
-      word-now =
+      pub word_now : word_at b.state.0 (where_of q) ≡ word_at (through (h.operation ∷ h.older) b₀.state).0 (where_of q)
+      word_now =
           ap (λ (x : State). word_at x.0 (where_of q)) listed_here.history.state
           ∙ not_changed q h.newer (h.operation ∷ h.older) b₀.state h.not_since

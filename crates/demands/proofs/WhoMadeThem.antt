@@ -16,7 +16,7 @@ use Rattle.moving.proofs.Division.{row_reads}
 use Rattle.demands.specs.Histories.{Valid, Session, through, trace}
 use Rattle.demands.specs.Hits.{made_by}
 use Rattle.demands.proofs.Undoing.{touched, touched_sizes, undoes}
-use Rattle.demands.proofs.ThirdDemand.{Fair, through_valid, kept-session}
+use Rattle.demands.proofs.ThirdDemand.{Fair, through_valid, kept_session}
 
 -- What the records of the listed operations hold, the newest first.
 abbrev pub made : List Operation → State → List OldValues
@@ -71,7 +71,7 @@ module _ (b₀ : Bench) (ok : Valid b₀.state) (z : b₀.used ≡ 0) {b : Bench
   -- The trail in use reads as the records of the operations still listed, and as nothing else,
   pub session_records : records_of true b.trail b.used ≡ some (made l b₀.state)
   session_records =
-      let k = kept-session b₀ ok z s in
+      let k = kept_session b₀ ok z s in
       let h = k.history in
       row_reads true b.trail (made l b₀.state) b.used h.within (h.in_use ∙ trace_row l b₀.state) (made_good l b₀.state ok k.fair)
 

@@ -8,7 +8,7 @@ use Rattle.machine.specs.Held.{machine_of}
 use Rattle.intel_hex.specs.Imported.{Imports}
 use Rattle.intel_hex.specs.declared.importing.Import.{Import}
 use Rattle.intel_hex.specs.declared.importing.Imported.TheVariants.{Accepted}
-use Rattle.viper.specs.Refusals.{if-done}
+use Rattle.viper.specs.Refusals.{if_done}
 use Rattle.viper.specs.Operations.{Bench, Operation, step, reset, force, set_word, next, record_for, Call, operate, run, back, outcome}
 use Rattle.viper.specs.Runs.{run_outcome}
 use Rattle.viper.specs.TakingBack.{back_outcome}
@@ -69,7 +69,7 @@ after (c ∷ cs) b = after cs (called c b)
 
 -- Each accepted operation is listed,
 abbrev pub noted : Operation → Answer → List Operation → List Operation
-noted e a l = if-done a (e ∷ l) l
+noted e a l = if_done a (e ∷ l) l
 
 -- a run as its single steps,
 abbrev pub steps_done : RunAnswer → ℕ
@@ -85,7 +85,7 @@ strike [] = []
 strike (e ∷ l) = l
 
 abbrev pub struck : Answer → List Operation → List Operation
-struck a l = if-done a (strike l) l
+struck a l = if_done a (strike l) l
 
 abbrev pub listing : Call → Bench → List Operation → List Operation
 listing (operate e) b l = noted e (outcome e b).answered l

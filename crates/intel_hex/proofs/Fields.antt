@@ -40,21 +40,21 @@ module _ (text : List ℕ) (at : ℕ) where
       (h : high ≡ byte (drop (at + 3) text))
       (l : low ≡ byte (drop (at + 5) text))
       (k : type ≡ byte (drop (at + 7) text)) where
-    pub type-data : type ≡ 0 → data_line count (256 * high + low) ≡ layout_of (drop at text)
+    pub type_data : type ≡ 0 → data_line count (256 * high + low) ≡ layout_of (drop at text)
     unfolding by_type
-    type-data e = rw (layout_there, ← k, e, ← c, ← h, ← l)
+    type_data e = rw (layout_there, ← k, e, ← c, ← h, ← l)
 
-    pub type-end : type ≡ 1 → end_of count (256 * high + low) ≡ layout_of (drop at text)
+    pub type_end : type ≡ 1 → end_of count (256 * high + low) ≡ layout_of (drop at text)
     unfolding by_type
-    type-end e = rw (layout_there, ← k, e, ← c, ← h, ← l)
+    type_end e = rw (layout_there, ← k, e, ← c, ← h, ← l)
 
-    pub type-upper : {uh ul : ℕ}
+    pub type_upper : {uh ul : ℕ}
         → uh ≡ byte (drop (at + 9) text)
         → ul ≡ byte (drop (at + 11) text)
         → type ≡ 4
         → upper_of count (256 * high + low) (256 * uh + ul) ≡ layout_of (drop at text)
     unfolding by_type
-    type-upper m n e = rw (layout_there, ← k, e, ← c, ← h, ← l, ← m, ← n)
+    type_upper m n e = rw (layout_there, ← k, e, ← c, ← h, ← l, ← m, ← n)
 
   first_sign : get_or (drop at text) 0 0 ≡ get_or text at 0
   first_sign = rw (get_or-drop at text 0 0, add-zero)
@@ -68,13 +68,13 @@ module _ (text : List ℕ) (at : ℕ) where
   no_colon_there g = rw (first_sign, ne_eqb (get_or text at 0) 58 g)
 
   module _ {count s : ℕ} (colon : get_or text at 0 ≡ 58) (c : count ≡ byte (drop (at + 1) text)) (t : s ≡ summed (bytes (count + 5) (drop (at + 1) text))) where
-    pub no-sum-there : (s ≡ 0 → ⊥) → false ≡ well_formed (drop at text)
+    pub no_sum_there : (s ≡ 0 → ⊥) → false ≡ well_formed (drop at text)
     unfolding well_formed
-    no-sum-there g = rw (first_sign, colon, drop-drop 1 at text, ← c, ← t, ne_eqb s 0 g)
+    no_sum_there g = rw (first_sign, colon, drop-drop 1 at text, ← c, ← t, ne_eqb s 0 g)
 
-    pub ending-decides : {e : ℕ} → s ≡ 0 → e ≡ ending (drop (at + (11 + 2 * count)) text) → ltb 0 e ≡ well_formed (drop at text)
+    pub ending_decides : {e : ℕ} → s ≡ 0 → e ≡ ending (drop (at + (11 + 2 * count)) text) → ltb 0 e ≡ well_formed (drop at text)
     unfolding well_formed
-    ending-decides {e} z f = rw (first_sign, colon, drop-drop 1 at text, ← c, ← t, z, drop-drop (11 + 2 * count) at text, ← f)
+    ending_decides {e} z f = rw (first_sign, colon, drop-drop 1 at text, ← c, ← t, z, drop-drop (11 + 2 * count) at text, ← f)
 
   pub line_shaped : well_formed (drop at text) ≡ true → layout_of (drop at text) ≡ line_of (drop at text)
   unfolding line_of

@@ -49,10 +49,10 @@ module _ (main : List ℕ) (first i : ℕ) (more : first + i < length main) wher
       ≡ pairs (data_bytes (take i (drop first main))) ++ pairs (word_bytes (get_or main (first + i) 0))
   one_word_more = rw (one_more, data_append, pairs_append)
 
-  pub one-sum-more :
+  pub one_sum_more :
       sum (data_bytes (take (i + 1) (drop first main)))
       ≡ sum (data_bytes (take i (drop first main))) + sum (word_bytes (get_or main (first + i) 0))
-  one-sum-more = rw (one_more, data_append, sum_append)
+  one_sum_more = rw (one_more, data_append, sum_append)
 
 pub line_length : (type address : ℕ) (bytes : List ℕ) → length (record_line type address bytes) ≡ 12 + 2 * length bytes
 unfolding record_line

@@ -84,10 +84,10 @@ pub import_unique : {main text after after' : List ℕ} {used : ℕ} {r r' : Imp
     → Imports main used text r' after'
     → (r ≡ r') × (after ≡ after')
 import_unique {r = r} {r' = r'} i j =
-    (same-import r r' (i.answer_is ∙ sym j.answer_is) (i.used_is ∙ sym j.used_is), i.main_is ∙ sym j.main_is)
+    (same_import r r' (i.answer_is ∙ sym j.answer_is) (i.used_is ∙ sym j.used_is), i.main_is ∙ sym j.main_is)
   where
-    same-import : (r r' : Import) → r.answer ≡ r'.answer → r.used ≡ r'.used → r ≡ r'
-    same-import r r' p q =
+    same_import : (r r' : Import) → r.answer ≡ r'.answer → r.used ≡ r'.used → r ≡ r'
+    same_import r r' p q =
         let made : Imported → ℕ → Import = λ a u. record { answer = a; used = u } in
         ap (λ (a : Imported). made a r.used) p ∙ ap (λ (u : ℕ). made r'.answer u) q
 

@@ -22,11 +22,11 @@ pub nothing_exported : exported [] ≡ text ":020000040000FA\n:00000001FF\n"
 unfolding exported rows upper_line end_line record_line sum_byte
 nothing_exported = refl
 
-pub five-words-exported :
+pub five_words_exported :
     exported (0x00300005 ∷ 0x1E00000A ∷ 0x01200005 ∷ 0x00D00000 ∷ 0xFFFFFFFF ∷ [])
     ≡ text ":020000040000FA\n:10000000003000051E00000A0120000500D000009D\n:04001000FFFFFFFFF0\n:00000001FF\n"
 unfolding exported rows upper_before upper_line end_line record_line sum_byte
-five-words-exported = refl
+five_words_exported = refl
 
 -- A carriage return before the second line feed only.
 pub one_return_put : with_returns (false ∷ true ∷ []) (text ":020000040000FA\n:00000001FF\n") ≡ text ":020000040000FA\n:00000001FF\r\n"
@@ -34,11 +34,11 @@ unfolding with_returns
 one_return_put = refl
 
 -- Two records that name word 1: both in order, the second with a carriage return.
-pub named-twice :
+pub named_twice :
     text_of 8 0 (text ":0400040000000001F7\n:040004000000000AEE\r\n:00000001FF\n")
     ≡ good ((1, 1) ∷ (1, 10) ∷ [])
 unfolding text_of text_in line_of layout_of by_type data_line end_of upper_of well_formed size_of ending ending_of summed byte byte_of digit_value word_of
-named-twice = refl
+named_twice = refl
 
 -- The second line's sum is wrong.
 pub second_line_bad : text_of 8 0 (text ":0400040000000001F7\n:040004000000000AEF\n:00000001FF\n") ≡ bad 2

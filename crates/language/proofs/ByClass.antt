@@ -65,17 +65,17 @@ module _ (w : ℕ) where
   word_form e = by_class w true (of comparison w) (of write w) (halts_class w ∙ eq-eqb (class_of_word w) 1 e) refl refl
 
   module _ (some : 2 ≤ class_of_word w) where
-    no-halt : of always_halts w ≡ false
-    no-halt = halts_class w ∙ ne_eqb (class_of_word w) 1 (λ i. omega arith)
+    no_halt : of always_halts w ≡ false
+    no_halt = halts_class w ∙ ne_eqb (class_of_word w) 1 (λ i. omega arith)
 
     no_comparison : of comparison w ≡ false
     no_comparison = comparison_class w ∙ ne_eqb (class_of_word w) 0 (λ i. omega arith)
 
-    pub write-form : class_of_word w ≤ 3 → form w ≡ ignoring (parts.fsf w) Write
-    write-form l = by_class w false false true no-halt no_comparison (write_class w some ∙ le-leb (class_of_word w) 3 l)
+    pub write_form : class_of_word w ≤ 3 → form w ≡ ignoring (parts.fsf w) Write
+    write_form l = by_class w false false true no_halt no_comparison (write_class w some ∙ le-leb (class_of_word w) 3 l)
 
-    pub result-form : 4 ≤ class_of_word w → form w ≡ function_form (fields_of w)
-    result-form g = by_class w false false false no-halt no_comparison (write_class w some ∙ lt-leb (class_of_word w) 3 g)
+    pub result_form : 4 ≤ class_of_word w → form w ≡ function_form (fields_of w)
+    result_form g = by_class w false false false no_halt no_comparison (write_class w some ∙ lt-leb (class_of_word w) 3 g)
 
 -- ---- the fields that the code takes out of a word
 

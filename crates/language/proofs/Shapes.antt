@@ -13,7 +13,7 @@ use Rattle.instruction.specs.Classes.{class_by, class_of_word}
 use Rattle.language.specs.declared.forms.Form.{Form}
 use Rattle.language.specs.declared.forms.Form.TheVariants.{Word, Comparison, Write, Shift, Unary, Binary}
 use Rattle.language.specs.Line.{fields_of, ignoring, function_form, form}
-use Rattle.language.proofs.ByClass.{comparison_class, comparison_form, word_form, write-form, result-form}
+use Rattle.language.proofs.ByClass.{comparison_class, comparison_form, word_form, write_form, result_form}
 
 pub data Nothing : Type 0 where
   nothing : Nothing
@@ -102,10 +102,10 @@ told w =
 
     some : 2 ≤ class_of_word w → class_of_word w ≤ 3 → Told (form w) w
     some h g =
-        subst (λ t. Told t w) (sym (write-form w h g))
+        subst (λ t. Told t w) (sym (write_form w h g))
         (told_ignoring w (fsf w) Write (λ z. (plain w h, writing w h g, z)))
 
     many : 2 ≤ class_of_word w → 4 ≤ class_of_word w → Told (form w) w
     many h g =
         let r = result w g in
-        subst (λ t. Told t w) (sym (result-form w h g)) (told_function w (plain w h) r.0 r.1)
+        subst (λ t. Told t w) (sym (result_form w h g)) (told_function w (plain w h) r.0 r.1)

@@ -127,17 +127,17 @@ pub back_and_there : {s out : List ℕ} {n : ℕ} {out' : List ℕ} (a : Accepte
     → move true (take n out') out₂ ≡ (Bytes (length s), row true (map kind_zero a.entries) ++ drop (length s) out₂)
 back_and_there {s} {out} {n} {out'} a out₂ h =
     let es = map kind_zero a.entries in
-    let l : length (row true es) ≡ length s = zero-length a in
+    let l : length (row true es) ≡ length s = zero_length a in
     rw (written a, ← zero_row a.entries, ← l) (accepted true es out₂ (zero_good a.entries a.good) (omega arith))
   where
-    map-length : (es : List OldValues) → length (map kind_zero es) ≡ length es
-    map-length [] = refl
-    map-length (e ∷ es) = omega (arith, map-length es)
+    map_length : (es : List OldValues) → length (map kind_zero es) ≡ length es
+    map_length [] = refl
+    map_length (e ∷ es) = omega (arith, map_length es)
 
-    zero-length : (a : Accepted false s out n out') → length (row true (map kind_zero a.entries)) ≡ length s
-    zero-length a =
+    zero_length : (a : Accepted false s out n out') → length (row true (map kind_zero a.entries)) ≡ length s
+    zero_length a =
         let es = a.entries in
-        omega (arith, row_lengths (map kind_zero es) (row_small false (map kind_zero es) (zero_good es a.good)), row_lengths es (row_small true es a.good), ap length (zero_row es), map-length es, ap length a.input)
+        omega (arith, row_lengths (map kind_zero es) (row_small false (map kind_zero es) (zero_good es a.good)), row_lengths es (row_small true es a.good), ap length (zero_row es), map_length es, ap length a.input)
 
 -- ---- the two readings: a moved trail is taken back value by value as the old one was
 

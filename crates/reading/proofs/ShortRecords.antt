@@ -128,14 +128,14 @@ module _ (kind m p c : ℕ) where
       go false false false false a x y w = absurd (h (weights m a x y w))
 
   module _ (l : c < 128) where
-    a-left : m % 16 ≡ 1 → from_p kind m p (c ∷ []) ≡ some (record { kind = kind; marks = m; p = p; a = c; x = 0; y = 0; place = 0; value = 0 })
-    a-left h = rw (eq-eqb (m / 1 % 2) 1 (omega arith), ne_eqb (m / 2 % 2) 1 (omega arith), ne_eqb (m / 4 % 2) 1 (omega arith), ne_eqb (m / 8 % 2) 1 (omega arith), one (2 ^ 32) c [] l (omega arith))
+    a_left : m % 16 ≡ 1 → from_p kind m p (c ∷ []) ≡ some (record { kind = kind; marks = m; p = p; a = c; x = 0; y = 0; place = 0; value = 0 })
+    a_left h = rw (eq-eqb (m / 1 % 2) 1 (omega arith), ne_eqb (m / 2 % 2) 1 (omega arith), ne_eqb (m / 4 % 2) 1 (omega arith), ne_eqb (m / 8 % 2) 1 (omega arith), one (2 ^ 32) c [] l (omega arith))
 
-    x-left : m % 16 ≡ 2 → from_p kind m p (c ∷ []) ≡ some (record { kind = kind; marks = m; p = p; a = 0; x = c; y = 0; place = 0; value = 0 })
-    x-left h = rw (ne_eqb (m / 1 % 2) 1 (omega arith), eq-eqb (m / 2 % 2) 1 (omega arith), ne_eqb (m / 4 % 2) 1 (omega arith), ne_eqb (m / 8 % 2) 1 (omega arith), one (2 ^ 32) c [] l (omega arith))
+    x_left : m % 16 ≡ 2 → from_p kind m p (c ∷ []) ≡ some (record { kind = kind; marks = m; p = p; a = 0; x = c; y = 0; place = 0; value = 0 })
+    x_left h = rw (ne_eqb (m / 1 % 2) 1 (omega arith), eq-eqb (m / 2 % 2) 1 (omega arith), ne_eqb (m / 4 % 2) 1 (omega arith), ne_eqb (m / 8 % 2) 1 (omega arith), one (2 ^ 32) c [] l (omega arith))
 
-    y-left : m % 16 ≡ 4 → from_p kind m p (c ∷ []) ≡ some (record { kind = kind; marks = m; p = p; a = 0; x = 0; y = c; place = 0; value = 0 })
-    y-left h = rw (ne_eqb (m / 1 % 2) 1 (omega arith), ne_eqb (m / 2 % 2) 1 (omega arith), eq-eqb (m / 4 % 2) 1 (omega arith), ne_eqb (m / 8 % 2) 1 (omega arith), one (2 ^ 32) c [] l (omega arith))
+    y_left : m % 16 ≡ 4 → from_p kind m p (c ∷ []) ≡ some (record { kind = kind; marks = m; p = p; a = 0; x = 0; y = c; place = 0; value = 0 })
+    y_left h = rw (ne_eqb (m / 1 % 2) 1 (omega arith), ne_eqb (m / 2 % 2) 1 (omega arith), eq-eqb (m / 4 % 2) 1 (omega arith), ne_eqb (m / 8 % 2) 1 (omega arith), one (2 ^ 32) c [] l (omega arith))
 
     -- A word or two registers do not go into one byte.
     more_left : (m % 16 ≡ 0 → ⊥) → (m % 16 ≡ 1 → ⊥) → (m % 16 ≡ 2 → ⊥) → (m % 16 ≡ 4 → ⊥) → from_p kind m p (c ∷ []) ≡ none
@@ -168,29 +168,29 @@ module _ (kind : ℕ) (s : List ℕ) (end k m : ℕ) (some_bytes : 2 ≤ k) (ins
   marks_broken h = by_marks ∙ ap (leaving (end - k - 1)) (marks_large kind m tail h)
 
   module _ (small : m < 64) where
-    by-p : after_kind kind s end k ≡ leaving (end - k - 1) (and_then (read_below (2 ^ 20) tail) (from_p kind m))
-    by-p = by_marks ∙ ap (leaving (end - k - 1)) (marks_first kind m tail small)
+    by_p : after_kind kind s end k ≡ leaving (end - k - 1) (and_then (read_below (2 ^ 20) tail) (from_p kind m))
+    by_p = by_marks ∙ ap (leaving (end - k - 1)) (marks_first kind m tail small)
 
-    p-broken : read_below (2 ^ 20) tail ≡ broken → after_kind kind s end k ≡ newest.Broken
-    p-broken e = by-p ∙ ap (λ (r : Read). leaving (end - k - 1) (and_then r (from_p kind m))) e
+    p_broken : read_below (2 ^ 20) tail ≡ broken → after_kind kind s end k ≡ newest.Broken
+    p_broken e = by_p ∙ ap (λ (r : Read). leaving (end - k - 1) (and_then r (from_p kind m))) e
 
     p_is : (p : ℕ) (rest : List ℕ) → read_below (2 ^ 20) tail ≡ got p rest → after_kind kind s end k ≡ leaving (end - k - 1) (from_p kind m p rest)
-    p_is p rest e = by-p ∙ ap (λ (r : Read). leaving (end - k - 1) (and_then r (from_p kind m))) e
+    p_is p rest e = by_p ∙ ap (λ (r : Read). leaving (end - k - 1) (and_then r (from_p kind m))) e
 
     kept : (p : ℕ) → m % 16 ≡ 0 → read_below (2 ^ 20) tail ≡ got p [] → Holds (after_kind kind s end k) (record { kind = kind; marks = m; p = p; a = 0; x = 0; y = 0; place = 0; value = 0 }) (end - k - 1) 0
     kept p z e = record { holds = p_is p [] e ∙ ap (leaving (end - k - 1)) (plain kind m p [] z); marks = z }
 
     -- Nothing is marked: P must take all bytes after the marks; r is what the code found for it.
     module _ {r : Number} (found : r ≡ number_of end (read_below (2 ^ 20) tail)) where
-      pub no-p : r ≡ Broken → after_kind kind s end k ≡ newest.Broken
-      no-p e = p-broken (is_broken end (read_below (2 ^ 20) tail) (sym e ∙ found))
+      pub no_p : r ≡ Broken → after_kind kind s end k ≡ newest.Broken
+      no_p e = p_broken (is_broken end (read_below (2 ^ 20) tail) (sym e ∙ found))
 
       module _ {p next : ℕ} (e : r ≡ Got p next) (z : m % 16 ≡ 0) where
         to : (read_below (2 ^ 20) tail ≡ got p (slice next end s)) × (next ≤ end)
         to = is_got true (2 ^ 20) s (end - k + 1) end p next (omega arith) (omega arith) (sym e ∙ found)
 
-        pub p-ends : next ≡ end → Holds (after_kind kind s end k) (record { kind = kind; marks = m; p = p; a = 0; x = 0; y = 0; place = 0; value = 0 }) (end - k - 1) 0
-        p-ends h =
+        pub p_ends : next ≡ end → Holds (after_kind kind s end k) (record { kind = kind; marks = m; p = p; a = 0; x = 0; y = 0; place = 0; value = 0 }) (end - k - 1) 0
+        p_ends h =
             let none : slice next end s ≡ [] = no_bytes (slice next end s) (length-slice next end s (omega arith) ∙ omega arith) in
             kept p z (to.0 ∙ ap (got p) none)
 
@@ -202,45 +202,45 @@ module _ (kind : ℕ) (s : List ℕ) (end k m : ℕ) (some_bytes : 2 ≤ k) (ins
 
     -- One byte stands after the marks: P is that byte, and nothing is marked.
     module _ (b : ℕ) (one_byte : tail ≡ b ∷ []) where
-      pub p-kept : m % 16 ≡ 0 → b < 128 → Holds (after_kind kind s end k) (record { kind = kind; marks = m; p = b; a = 0; x = 0; y = 0; place = 0; value = 0 }) (end - k - 1) 0
-      p-kept z l = kept b z (rw (one_byte, one (2 ^ 20) b [] l (omega arith)))
+      pub p_kept : m % 16 ≡ 0 → b < 128 → Holds (after_kind kind s end k) (record { kind = kind; marks = m; p = b; a = 0; x = 0; y = 0; place = 0; value = 0 }) (end - k - 1) 0
+      p_kept z l = kept b z (rw (one_byte, one (2 ^ 20) b [] l (omega arith)))
 
-      pub p-lacking : 128 ≤ b → after_kind kind s end k ≡ newest.Broken
-      p-lacking l = p-broken (rw (one_byte, lone (2 ^ 20) b l))
+      pub p_lacking : 128 ≤ b → after_kind kind s end k ≡ newest.Broken
+      p_lacking l = p_broken (rw (one_byte, lone (2 ^ 20) b l))
 
-      pub p-alone : (m % 16 ≡ 0 → ⊥) → after_kind kind s end k ≡ newest.Broken
-      p-alone z = go (ltb b 128) refl
+      pub p_alone : (m % 16 ≡ 0 → ⊥) → after_kind kind s end k ≡ newest.Broken
+      p_alone z = go (ltb b 128) refl
         where
           go : (t : Bool) → ltb b 128 ≡ t → after_kind kind s end k ≡ newest.Broken
           go true e = p_is b [] (rw (one_byte, one (2 ^ 20) b [] (ltb-true b 128 e) (omega arith))) ∙ ap (leaving (end - k - 1)) (missing kind m b z)
-          go false e = p-lacking (ltb-false b 128 e)
+          go false e = p_lacking (ltb-false b 128 e)
 
     -- Two bytes stand after the marks, and something is marked: P is the first, and the value the second.
     module _ (b c : ℕ) (two_bytes : tail ≡ b ∷ (c ∷ [])) where
-      pub p-takes-both : (m % 16 ≡ 0 → ⊥) → 128 ≤ b → after_kind kind s end k ≡ newest.Broken
-      p-takes-both z l =
+      pub p_takes_both : (m % 16 ≡ 0 → ⊥) → 128 ≤ b → after_kind kind s end k ≡ newest.Broken
+      p_takes_both z l =
           let e : and_then (read_below (2 ^ 20) tail) (from_p kind m) ≡ none = rw two_bytes (both (2 ^ 20) b c l (from_p kind m) (λ p. missing kind m p z)) in
-          by-p ∙ ap (leaving (end - k - 1)) e
+          by_p ∙ ap (leaving (end - k - 1)) e
 
       module _ (l : b < 128) where
-        p-first : after_kind kind s end k ≡ leaving (end - k - 1) (from_p kind m b (c ∷ []))
-        p-first = p_is b (c ∷ []) (rw (two_bytes, one (2 ^ 20) b (c ∷ []) l (omega arith)))
+        p_first : after_kind kind s end k ≡ leaving (end - k - 1) (from_p kind m b (c ∷ []))
+        p_first = p_is b (c ∷ []) (rw (two_bytes, one (2 ^ 20) b (c ∷ []) l (omega arith)))
 
-        pub value-lacking : (m % 16 ≡ 0 → ⊥) → 128 ≤ c → after_kind kind s end k ≡ newest.Broken
-        value-lacking z h = p-first ∙ ap (leaving (end - k - 1)) (lacking kind m b c h z)
+        pub value_lacking : (m % 16 ≡ 0 → ⊥) → 128 ≤ c → after_kind kind s end k ≡ newest.Broken
+        value_lacking z h = p_first ∙ ap (leaving (end - k - 1)) (lacking kind m b c h z)
 
         module _ (h : c < 128) where
-          pub a-marked : m % 16 ≡ 1 → Holds (after_kind kind s end k) (record { kind = kind; marks = m; p = b; a = c; x = 0; y = 0; place = 0; value = 0 }) (end - k - 1) 1
-          a-marked z = record { holds = p-first ∙ ap (leaving (end - k - 1)) (a-left kind m b c h z); marks = z }
+          pub a_marked : m % 16 ≡ 1 → Holds (after_kind kind s end k) (record { kind = kind; marks = m; p = b; a = c; x = 0; y = 0; place = 0; value = 0 }) (end - k - 1) 1
+          a_marked z = record { holds = p_first ∙ ap (leaving (end - k - 1)) (a_left kind m b c h z); marks = z }
 
-          pub x-marked : m % 16 ≡ 2 → Holds (after_kind kind s end k) (record { kind = kind; marks = m; p = b; a = 0; x = c; y = 0; place = 0; value = 0 }) (end - k - 1) 2
-          x-marked z = record { holds = p-first ∙ ap (leaving (end - k - 1)) (x-left kind m b c h z); marks = z }
+          pub x_marked : m % 16 ≡ 2 → Holds (after_kind kind s end k) (record { kind = kind; marks = m; p = b; a = 0; x = c; y = 0; place = 0; value = 0 }) (end - k - 1) 2
+          x_marked z = record { holds = p_first ∙ ap (leaving (end - k - 1)) (x_left kind m b c h z); marks = z }
 
-          pub y-marked : m % 16 ≡ 4 → Holds (after_kind kind s end k) (record { kind = kind; marks = m; p = b; a = 0; x = 0; y = c; place = 0; value = 0 }) (end - k - 1) 4
-          y-marked z = record { holds = p-first ∙ ap (leaving (end - k - 1)) (y-left kind m b c h z); marks = z }
+          pub y_marked : m % 16 ≡ 4 → Holds (after_kind kind s end k) (record { kind = kind; marks = m; p = b; a = 0; x = 0; y = c; place = 0; value = 0 }) (end - k - 1) 4
+          y_marked z = record { holds = p_first ∙ ap (leaving (end - k - 1)) (y_left kind m b c h z); marks = z }
 
-          pub more-marked : (m % 16 ≡ 0 → ⊥) → (m % 16 ≡ 1 → ⊥) → (m % 16 ≡ 2 → ⊥) → (m % 16 ≡ 4 → ⊥) → after_kind kind s end k ≡ newest.Broken
-          more-marked z za zx zy = p-first ∙ ap (leaving (end - k - 1)) (more_left kind m b c h z za zx zy)
+          pub more_marked : (m % 16 ≡ 0 → ⊥) → (m % 16 ≡ 1 → ⊥) → (m % 16 ≡ 2 → ⊥) → (m % 16 ≡ 4 → ⊥) → after_kind kind s end k ≡ newest.Broken
+          more_marked z za zx zy = p_first ∙ ap (leaving (end - k - 1)) (more_left kind m b c h z za zx zy)
 
 pub pair_is : (s : List ℕ) (end : ℕ) {r t : Pair} → r ≡ t → TwoBytes s end r → TwoBytes s end t
 pair_is s end e h = subst (TwoBytes s end) e h
@@ -259,9 +259,9 @@ module _ (kind : ℕ) (s : List ℕ) (end m : ℕ) (four : 4 ≤ end) (fits : en
       go : (x : Bool) → ltb (get_or s (end - 2) 0) 128 ≡ x → after_kind kind s end 3 ≡ newest.Broken
       go true e =
           let l = ltb-true (get_or s (end - 2) 0) 128 e in
-          value-lacking kind s end 3 m (omega arith) (omega arith) fits mark.byte mark.small (get_or s (end - 2) 0) (get_or s (end - 1) 0) (at_p _ _ t.0) l some (t.1 l)
+          value_lacking kind s end 3 m (omega arith) (omega arith) fits mark.byte mark.small (get_or s (end - 2) 0) (get_or s (end - 1) 0) (at_p _ _ t.0) l some (t.1 l)
       go false e =
-          p-takes-both kind s end 3 m (omega arith) (omega arith) fits mark.byte mark.small (get_or s (end - 2) 0) (get_or s (end - 1) 0) (at_p _ _ t.0) some (ltb-false (get_or s (end - 2) 0) 128 e)
+          p_takes_both kind s end 3 m (omega arith) (omega arith) fits mark.byte mark.small (get_or s (end - 2) 0) (get_or s (end - 1) 0) (at_p _ _ t.0) some (ltb-false (get_or s (end - 2) 0) 128 e)
 
   pub pair_says : (p v : ℕ) → TwoBytes s end (pair.Got p v) → Says 4 (with_value kind m p v (end - 4)) (after_kind kind s end 3)
   unfolding with_value
@@ -271,12 +271,12 @@ module _ (kind : ℕ) (s : List ℕ) (end m : ℕ) (four : 4 ≤ end) (fits : en
       left = omega arith
 
       go : (x y z : Bool) → eqb (m % 16) 1 ≡ x → eqb (m % 16) 2 ≡ y → eqb (m % 16) 4 ≡ z → Says 4 (with_value kind m p v (end - 4)) (after_kind kind s end 3)
-      go true y z e f g = rw (e, left) (a-marked kind s end 3 m (omega arith) (omega arith) fits mark.byte mark.small p v (at_p p v t.0) t.1 t.2 (eqb-true (m % 16) 1 e))
-      go false true z e f g = rw (e, f, left) (x-marked kind s end 3 m (omega arith) (omega arith) fits mark.byte mark.small p v (at_p p v t.0) t.1 t.2 (eqb-true (m % 16) 2 f))
-      go false false true e f g = rw (e, f, g, left) (y-marked kind s end 3 m (omega arith) (omega arith) fits mark.byte mark.small p v (at_p p v t.0) t.1 t.2 (eqb-true (m % 16) 4 g))
+      go true y z e f g = rw (e, left) (a_marked kind s end 3 m (omega arith) (omega arith) fits mark.byte mark.small p v (at_p p v t.0) t.1 t.2 (eqb-true (m % 16) 1 e))
+      go false true z e f g = rw (e, f, left) (x_marked kind s end 3 m (omega arith) (omega arith) fits mark.byte mark.small p v (at_p p v t.0) t.1 t.2 (eqb-true (m % 16) 2 f))
+      go false false true e f g = rw (e, f, g, left) (y_marked kind s end 3 m (omega arith) (omega arith) fits mark.byte mark.small p v (at_p p v t.0) t.1 t.2 (eqb-true (m % 16) 4 g))
       go false false false e f g =
           rw (e, f, g)
-          (more-marked kind s end 3 m (omega arith) (omega arith) fits mark.byte mark.small p v (at_p p v t.0) t.1 t.2 some (eqb-false (m % 16) 1 e) (eqb-false (m % 16) 2 f) (eqb-false (m % 16) 4 g))
+          (more_marked kind s end 3 m (omega arith) (omega arith) fits mark.byte mark.small p v (at_p p v t.0) t.1 t.2 some (eqb-false (m % 16) 1 e) (eqb-false (m % 16) 2 f) (eqb-false (m % 16) 4 g))
 
 -- ---- the kind, before those bytes
 

@@ -184,23 +184,23 @@ module _ {r m x e s t : ℕ} (ex : Ext r x s) (ey : Ext m e t) (hx : x < 2 ^ 33)
   sub_value_is = low_word (difference r m) ∙ (ap (λ (u : ℕ). u % 2 ^ 32) dif_33 ∙ sym (low_word (x + (2 ^ 33 - e))))
 
   module _ (k : ℕ) (h : In (x + (2 ^ 33 - e)) k) where
-    at-31 : (x + (2 ^ 33 - e)) / 2 ^ 31 ≡ k
-    at-31 = omega arith
+    at_31 : (x + (2 ^ 33 - e)) / 2 ^ 31 ≡ k
+    at_31 = omega arith
 
-    at-32 : (x + (2 ^ 33 - e)) / 2 ^ 32 ≡ k / 2
-    at-32 = omega arith
+    at_32 : (x + (2 ^ 33 - e)) / 2 ^ 32 ≡ k / 2
+    at_32 = omega arith
 
-    less-at : bit_of 32 (difference r m) ≡ eqb (k / 2 % 2) 1
-    less-at = ap (λ (b : ℕ). eqb b 1) (dif_32 ∙ ap (λ (b : ℕ). b % 2) at-32)
+    less_at : bit_of 32 (difference r m) ≡ eqb (k / 2 % 2) 1
+    less_at = ap (λ (b : ℕ). eqb b 1) (dif_32 ∙ ap (λ (b : ℕ). b % 2) at_32)
 
-    oflo-at : overflowed (difference r m) ≡ code k
-    oflo-at = ap (λ (b : ℕ). ◌XOR◌ (eqb b 1) (bit_of 31 (difference r m))) dif_32
+    oflo_at : overflowed (difference r m) ≡ code k
+    oflo_at = ap (λ (b : ℕ). ◌XOR◌ (eqb b 1) (bit_of 31 (difference r m))) dif_32
         ∙ (ap (λ (b : ℕ). ◌XOR◌ (eqb ((x + (2 ^ 33 - e)) / 2 ^ 32 % 2) 1) (eqb b 1)) dif_31
-        ∙ (xor_bits ((x + (2 ^ 33 - e)) / 2 ^ 32) ((x + (2 ^ 33 - e)) / 2 ^ 31) ∙ simp (at-32, at-31)))
+        ∙ (xor_bits ((x + (2 ^ 33 - e)) / 2 ^ 32) ((x + (2 ^ 33 - e)) / 2 ^ 31) ∙ simp (at_32, at_31)))
 
-    borrow-at : carried (difference r m) r m ≡ eqb ((k / 2 + (s + t)) % 2) 1
-    borrow-at = ap (λ (b : ℕ). ◌XOR◌ (eqb b 1) (◌XOR◌ (bit_of 31 r) (bit_of 31 m))) dif_32
-        ∙ simp (xor_bits) (simp (ex.top, ey.top, at-32))
+    borrow_at : carried (difference r m) r m ≡ eqb ((k / 2 + (s + t)) % 2) 1
+    borrow_at = ap (λ (b : ℕ). ◌XOR◌ (eqb b 1) (◌XOR◌ (bit_of 31 r) (bit_of 31 m))) dif_32
+        ∙ simp (xor_bits) (simp (ex.top, ey.top, at_32))
 
 -- what LESS, OFLO and BORROW are where the difference lies in the k-th stretch and o of the words are negative
 record Dif (r m k o : ℕ) : Type 0 where
@@ -209,7 +209,7 @@ record Dif (r m k o : ℕ) : Type 0 where
   borrow_k : carried (difference r m) r m ≡ eqb ((k / 2 + o) % 2) 1
 
 dif : {r m x e s t : ℕ} → Ext r x s → Ext m e t → x < 2 ^ 33 → e < 2 ^ 33 → (k : ℕ) → In (x + (2 ^ 33 - e)) k → Dif r m k (s + t)
-dif ex ey hx he k h = record { less_k = less-at ex ey hx he k h; oflo_k = oflo-at ex ey hx he k h; borrow_k = borrow-at ex ey hx he k h }
+dif ex ey hx he k h = record { less_k = less_at ex ey hx he k h; oflo_k = oflo_at ex ey hx he k h; borrow_k = borrow_at ex ey hx he k h }
 
 -- the difference of two naturals as integers
 minus : (a b : ℕ) → pos a -ℤ pos b ≡ sub_ℕ a b

@@ -83,7 +83,7 @@ pub v_not : (n w : ℕ) → «V» (map NOT (BITS n w)) + w % 2 ^ n ≡ 2 ^ n - 1
 unfolding «V» BITS
 v_not zero w = omega arith
 v_not (suc n) w =
-    simp (length-not n w)
+    simp (length_not n w)
     (by_le 1 (w / 2 ^ n % 2)
     (λ h.
     let e : w / 2 ^ n % 2 ≡ 1 = omega arith in
@@ -94,9 +94,9 @@ v_not (suc n) w =
     let m : w % 2 ^ suc n ≡ w % 2 ^ n = omega (arith, mod_more n w, ap (λ (x : ℕ). x * 2 ^ n) e) in
     simp (ne_eqb (w / 2 ^ n % 2) 1 (omega arith), m) (omega (arith, v_not n w, pow_pos n))))
   where
-    length-not : (n w : ℕ) → length (map NOT (BITS n w)) ≡ n
-    length-not zero w = refl
-    length-not (suc n) w = ap suc (length-not n w)
+    length_not : (n w : ℕ) → length (map NOT (BITS n w)) ≡ n
+    length_not zero w = refl
+    length_not (suc n) w = ap suc (length_not n w)
 
 -- the bits of two words, two by two, for an operation on numbers that goes by blocks
 module _ (f : Bool → Bool → Bool) (op : ℕ → ℕ → ℕ) (none : op 0 0 ≡ 0) (one : (a b : Bool) → BV (f a b) ≡ op (BV a) (BV b))

@@ -200,8 +200,8 @@ module _ (g : List ℕ) (p : ℕ) (b : Bool) (main ports : List ℕ) (f : Fields
       rw (offset_is f.msf f.addr m.x m.y low range.x_lt range.y_lt, z) (lt-leb (2 ^ 20) f.addr low)
 
   module _ (store : List ℕ) {o : Operand} (e : o ≡ constant_or f at store) where
-    held-told : {v : ℕ} → o ≡ operand.Held v → (bad at ≡ false) × (constant_or_word f store at r ≡ Held r v)
-    held-told {v} h = go (eqb f.msf 0) refl (bad at) refl (ltb at (length store)) (sym e ∙ h)
+    held_told : {v : ℕ} → o ≡ operand.Held v → (bad at ≡ false) × (constant_or_word f store at r ≡ Held r v)
+    held_told {v} h = go (eqb f.msf 0) refl (bad at) refl (ltb at (length store)) (sym e ∙ h)
       where
         go : (z : Bool) → eqb f.msf 0 ≡ z → (d : Bool) → bad at ≡ d → (t : Bool)
             → cond z (operand.Held f.addr) (cond d operand.Bad (cond t (operand.Held (get_or store at 0)) operand.Unfitted)) ≡ operand.Held v
@@ -211,8 +211,8 @@ module _ (g : List ℕ) (p : ℕ) (b : Bool) (main ports : List ℕ) (f : Fields
         go false z false y true q = (y, cc)
         go false z false y false q = let n : ◌≡◌ {A = ℕ} 0 1 = cc in absurd (omega arith)
 
-    lacking-told : o ≡ operand.Unfitted → (bad at ≡ false) × (constant_or_word f store at r ≡ Unfitted)
-    lacking-told h = go (eqb f.msf 0) (bad at) refl (ltb at (length store)) (sym e ∙ h)
+    lacking_told : o ≡ operand.Unfitted → (bad at ≡ false) × (constant_or_word f store at r ≡ Unfitted)
+    lacking_told h = go (eqb f.msf 0) (bad at) refl (ltb at (length store)) (sym e ∙ h)
       where
         go : (z d : Bool) → bad at ≡ d → (t : Bool)
             → cond z (operand.Held f.addr) (cond d operand.Bad (cond t (operand.Held (get_or store at 0)) operand.Unfitted)) ≡ operand.Unfitted
@@ -222,8 +222,8 @@ module _ (g : List ℕ) (p : ℕ) (b : Bool) (main ports : List ℕ) (f : Fields
         go false false y true q = let n : ◌≡◌ {A = ℕ} 0 1 = cc in absurd (omega arith)
         go false false y false q = (y, refl)
 
-    bad-told : o ≡ operand.Bad → bad at ≡ true
-    bad-told h = go (eqb f.msf 0) (bad at) refl (ltb at (length store)) (sym e ∙ h)
+    bad_told : o ≡ operand.Bad → bad at ≡ true
+    bad_told h = go (eqb f.msf 0) (bad at) refl (ltb at (length store)) (sym e ∙ h)
       where
         go : (z d : Bool) → bad at ≡ d → (t : Bool)
             → cond z (operand.Held f.addr) (cond d operand.Bad (cond t (operand.Held (get_or store at 0)) operand.Unfitted)) ≡ operand.Bad → bad at ≡ true
@@ -241,24 +241,24 @@ module _ (g : List ℕ) (p : ℕ) (b : Bool) (main ports : List ℕ) (f : Fields
   -- ---- class 0, a comparison
 
   module _ (k : class ≡ 0) where
-    compares-by : bad at ≡ false → decided class (eqb f.fsf 12) (top p) (bad at) b ≡ compares
+    compares_by : bad at ≡ false → decided class (eqb f.fsf 12) (top p) (bad at) b ≡ compares
     unfolding decided
-    compares-by n = rw (k, not_top, n)
+    compares_by n = rw (k, not_top, n)
 
     module _ {o : Operand} (e : o ≡ constant_or f at main) where
-      pub compares-held : {x : End} {v : ℕ} {t : Bool} → o ≡ operand.Held v → t ≡ COMPARE (f.fsf, r, v, b) → x ≡ flagged (p + 1) t false → x ≡ step
+      pub compares_held : {x : End} {v : ℕ} {t : Bool} → o ≡ operand.Held v → t ≡ COMPARE (f.fsf, r, v, b) → x ≡ flagged (p + 1) t false → x ≡ step
       unfolding operands_of executed
-      compares-held {x} {v} {t} h c z =
-          let d = held-told main e h in
-          z ∙ rw (← next_is, c) (held_once compares (compares-by d.0) {r' = r} {v = v} d.1)
+      compares_held {x} {v} {t} h c z =
+          let d = held_told main e h in
+          z ∙ rw (← next_is, c) (held_once compares (compares_by d.0) {r' = r} {v = v} d.1)
 
-      pub compares-bad : {x : End} → o ≡ operand.Bad → x ≡ flagged (p + 1) b true → x ≡ step
+      pub compares_bad : {x : End} → o ≡ operand.Bad → x ≡ flagged (p + 1) b true → x ≡ step
       unfolding decided
-      compares-bad h z = halts_once (rw (k, not_top, bad-told main e h)) z
+      compares_bad h z = halts_once (rw (k, not_top, bad_told main e h)) z
 
-      pub compares-lacking : o ≡ operand.Unfitted → ended came_case.Unfitted (ram main ports) trail ≡ step
+      pub compares_lacking : o ≡ operand.Unfitted → ended came_case.Unfitted (ram main ports) trail ≡ step
       unfolding operands_of
-      compares-lacking h = let d = lacking-told main e h in lacking_once compares (compares-by d.0) d.1
+      compares_lacking h = let d = lacking_told main e h in lacking_once compares (compares_by d.0) d.1
 
   -- ---- class 1, which always halts
 
@@ -269,9 +269,9 @@ module _ (g : List ℕ) (p : ℕ) (b : Bool) (main ports : List ℕ) (f : Fields
   -- ---- classes 2 and 3, a write
 
   module _ (few : class < 4) (n₀ : class ≡ 0 → ⊥) (n₁ : class ≡ 1 → ⊥) where
-    write-by : {t : Bool} → bad at ≡ t → decided class (eqb f.fsf 12) (top p) (bad at) b ≡ cond t halts writes
+    write_by : {t : Bool} → bad at ≡ t → decided class (eqb f.fsf 12) (top p) (bad at) b ≡ cond t halts writes
     unfolding decided
-    write-by {t} d = rw (not_top, d, lt-leb 7 class (omega arith), lt-leb 4 class few, ne_eqb class 1 n₁, ne_eqb class 0 n₀)
+    write_by {t} d = rw (not_top, d, lt-leb 7 class (omega arith), lt-leb 4 class few, ne_eqb class 1 n₁, ne_eqb class 0 n₀)
 
     -- Class 3 is the write to a port.
     place_is : place_by (eqb class 3) at ≡ place_by (eqb f.dsf 6) at
@@ -279,31 +279,31 @@ module _ (g : List ℕ) (p : ℕ) (b : Bool) (main ports : List ℕ) (f : Fields
         let c = D.classed in
         rw (c, D.fields.of_dsf) (ap (λ (t : Bool). place_by t at) (write_class w (omega (arith, c)) (omega (arith, c))))
 
-    pub write-bad : {x : End} → 2 ^ 20 ≤ at → x ≡ flagged (p + 1) b true → x ≡ step
-    write-bad d z = halts_once (write-by (le-leb (2 ^ 20) at d)) z
+    pub write_bad : {x : End} → 2 ^ 20 ≤ at → x ≡ flagged (p + 1) b true → x ≡ step
+    write_bad d z = halts_once (write_by (le-leb (2 ^ 20) at d)) z
 
     module _ {place : Place} (near : at < 2 ^ 20) (i : place ≡ place_by (eqb class 3) at) {t : Bool} (h : t ≡ fitted (ram main ports) (where_of place)) where
-      pub writes-once : {x : End} → t ≡ true → x ≡ completed m (record { machine = held g (p + 1) b false; written = phases.Word place r }) (ram main ports) trail used → x ≡ step
+      pub writes_once : {x : End} → t ≡ true → x ≡ completed m (record { machine = held g (p + 1) b false; written = phases.Word place r }) (ram main ports) trail used → x ≡ step
       unfolding executed
-      writes-once k z =
+      writes_once k z =
           let j = i ∙ place_is in
-          z ∙ rw (← next_is, j) (held_once writes (write-by (lt-leb (2 ^ 20) at near)) {r' = r} {v = 0} (write_operands f at r main ports true (rw (← j) (sym h ∙ k))))
+          z ∙ rw (← next_is, j) (held_once writes (write_by (lt-leb (2 ^ 20) at near)) {r' = r} {v = 0} (write_operands f at r main ports true (rw (← j) (sym h ∙ k))))
 
-      pub writes-lacking : t ≡ false → ended came_case.Unfitted (ram main ports) trail ≡ step
-      writes-lacking k =
+      pub writes_lacking : t ≡ false → ended came_case.Unfitted (ram main ports) trail ≡ step
+      writes_lacking k =
           let j = i ∙ place_is in
-          lacking_once writes (write-by (lt-leb (2 ^ 20) at near)) (write_operands f at r main ports false (rw (← j) (sym h ∙ k)))
+          lacking_once writes (write_by (lt-leb (2 ^ 20) at near)) (write_operands f at r main ports false (rw (← j) (sym h ∙ k)))
 
   -- ---- classes 4, 5 and 6, a result for A, X or Y
 
   module _ (from : 4 ≤ class) (below : class < 7) where
-    register-dsf : f.dsf + 4 ≡ class
-    register-dsf =
+    register_dsf : f.dsf + 4 ≡ class
+    register_dsf =
         let c = D.classed in
         rw (D.fields.of_dsf, c) (register_class w (omega (arith, c)) (omega (arith, c)))
 
-    pub register-low : f.dsf < 3
-    register-low = omega (arith, register-dsf)
+    pub register_low : f.dsf < 3
+    register_low = omega (arith, register_dsf)
 
     computes_by : (eqb f.fsf 12 ≡ false → bad at ≡ false) → decided class (eqb f.fsf 12) (top p) (bad at) b ≡ computes
     unfolding decided
@@ -317,78 +317,78 @@ module _ (g : List ℕ) (p : ℕ) (b : Bool) (main ports : List ℕ) (f : Fields
 
     module _ {o : Operand} (e : o ≡ operand_of f at main ports) where
       -- M is held: a shift's is 0, another's is told by its store.
-      functions-told : {v : ℕ} → o ≡ operand.Held v → (eqb f.fsf 12 ≡ false → bad at ≡ false) × (operands_of computes f at r main ports ≡ Held r v)
+      functions_told : {v : ℕ} → o ≡ operand.Held v → (eqb f.fsf 12 ≡ false → bad at ≡ false) × (operands_of computes f at r main ports ≡ Held r v)
       unfolding operands_of
-      functions-told {v} h = go (eqb f.fsf 12) refl (eqb f.fsf 2) (sym e ∙ h)
+      functions_told {v} h = go (eqb f.fsf 12) refl (eqb f.fsf 2) (sym e ∙ h)
         where
           go : (t : Bool) → eqb f.fsf 12 ≡ t → (u : Bool) → cond t (operand.Held 0) (constant_or f at (cond u ports main)) ≡ operand.Held v
               → (eqb f.fsf 12 ≡ false → bad at ≡ false) × (cond t (Held r 0) (cond u (constant_or_word f ports at r) (constant_or_word f main at r)) ≡ Held r v)
           go true y u q = (λ n. absurd (true≢false (sym y ∙ n)), cc)
-          go false y true q = let d = held-told ports refl q in (λ n. d.0, d.1)
-          go false y false q = let d = held-told main refl q in (λ n. d.0, d.1)
+          go false y true q = let d = held_told ports refl q in (λ n. d.0, d.1)
+          go false y false q = let d = held_told main refl q in (λ n. d.0, d.1)
 
-      pub computes-held : {x : End} {v : ℕ} {t : Triple} → o ≡ operand.Held v → ((df : ℕ) → df < 3 → t ≡ ALU (f.fsf, f.msf, df, r, v, b))
+      pub computes_held : {x : End} {v : ℕ} {t : Triple} → o ≡ operand.Held v → ((df : ℕ) → df < 3 → t ≡ ALU (f.fsf, f.msf, df, r, v, b))
           → x ≡ completed m (alone (delivered m f (p + 1) t)) (ram main ports) trail used → x ≡ step
       unfolding executed
-      computes-held {x} {v} {t} h l z =
-          let d = functions-told h in
-          z ∙ rw (← next_is, l f.dsf register-low) (held_once computes (computes_by d.0) {r' = r} {v = v} d.1)
+      computes_held {x} {v} {t} h l z =
+          let d = functions_told h in
+          z ∙ rw (← next_is, l f.dsf register_low) (held_once computes (computes_by d.0) {r' = r} {v = v} d.1)
 
-      pub computes-bad : {x : End} → o ≡ operand.Bad → x ≡ flagged (p + 1) b true → x ≡ step
+      pub computes_bad : {x : End} → o ≡ operand.Bad → x ≡ flagged (p + 1) b true → x ≡ step
       unfolding decided
-      computes-bad h z = halts_once (rw (not_top, lt-leb 7 class below, le-leb 4 class from) (go (eqb f.fsf 12) (eqb f.fsf 2) (sym e ∙ h))) z
+      computes_bad h z = halts_once (rw (not_top, lt-leb 7 class below, le-leb 4 class from) (go (eqb f.fsf 12) (eqb f.fsf 2) (sym e ∙ h))) z
         where
           go : (t u : Bool) → cond t (operand.Held 0) (constant_or f at (cond u ports main)) ≡ operand.Bad → cond (bad at) (cond t computes halts) computes ≡ halts
           go true u q = let n : ◌≡◌ {A = ℕ} 0 1 = cc in absurd (omega arith)
-          go false true q = rw (bad-told ports refl q)
-          go false false q = rw (bad-told main refl q)
+          go false true q = rw (bad_told ports refl q)
+          go false false q = rw (bad_told main refl q)
 
-      pub computes-lacking : o ≡ operand.Unfitted → ended came_case.Unfitted (ram main ports) trail ≡ step
+      pub computes_lacking : o ≡ operand.Unfitted → ended came_case.Unfitted (ram main ports) trail ≡ step
       unfolding operands_of
-      computes-lacking h = let d = go (eqb f.fsf 12) (eqb f.fsf 2) (sym e ∙ h) in lacking_once computes (computes_by (λ n. d.0)) d.1
+      computes_lacking h = let d = go (eqb f.fsf 12) (eqb f.fsf 2) (sym e ∙ h) in lacking_once computes (computes_by (λ n. d.0)) d.1
         where
           go : (t u : Bool) → cond t (operand.Held 0) (constant_or f at (cond u ports main)) ≡ operand.Unfitted
               → (bad at ≡ false) × (cond t (Held r 0) (cond u (constant_or_word f ports at r) (constant_or_word f main at r)) ≡ Unfitted)
           go true u q = let n : ◌≡◌ {A = ℕ} 0 1 = cc in absurd (omega arith)
-          go false true q = lacking-told ports refl q
-          go false false q = lacking-told main refl q
+          go false true q = lacking_told ports refl q
+          go false false q = lacking_told main refl q
 
   -- ---- classes 7, 8 and 9, a result for P
 
   module _ (from : 7 ≤ class) where
-    to-p-class : 7 ≤ class_of_word w
-    to-p-class = rw D.classed at from
+    to_p_class : 7 ≤ class_of_word w
+    to_p_class = rw D.classed at from
 
-    pub jump-high : 3 ≤ f.dsf
-    jump-high = rw D.fields.of_dsf (jump_class w to-p-class)
+    pub jump_high : 3 ≤ f.dsf
+    jump_high = rw D.fields.of_dsf (jump_class w to_p_class)
 
-    pub jump-fsf : jumping f.fsf ≡ true
-    jump-fsf = rw D.fields.of_fsf (jump_function w to-p-class)
+    pub jump_fsf : jumping f.fsf ≡ true
+    jump_fsf = rw D.fields.of_fsf (jump_function w to_p_class)
 
     -- 8 is not obeyed where B is clear, nor 9 where it is set.
-    pub skips-8 : {x : End} → (eqb class 8 && not b) ≡ true → x ≡ flagged (p + 1) b false → x ≡ step
+    pub skips_8 : {x : End} → (eqb class 8 && not b) ≡ true → x ≡ flagged (p + 1) b false → x ≡ step
     unfolding decided operands_of executed
-    skips-8 k z = z ∙ rw (← next_is) (held_once skips (rw (not_top, le-leb 7 class from, k)) {r' = r} {v = 0} refl)
+    skips_8 k z = z ∙ rw (← next_is) (held_once skips (rw (not_top, le-leb 7 class from, k)) {r' = r} {v = 0} refl)
 
     module _ (n₈ : (eqb class 8 && not b) ≡ false) where
-      pub skips-9 : {x : End} → (eqb class 9 && b) ≡ true → x ≡ flagged (p + 1) b false → x ≡ step
+      pub skips_9 : {x : End} → (eqb class 9 && b) ≡ true → x ≡ flagged (p + 1) b false → x ≡ step
       unfolding decided operands_of executed
-      skips-9 k z = z ∙ rw (← next_is) (held_once skips (rw (not_top, le-leb 7 class from, n₈, k)) {r' = r} {v = 0} refl)
+      skips_9 k z = z ∙ rw (← next_is) (held_once skips (rw (not_top, le-leb 7 class from, n₈, k)) {r' = r} {v = 0} refl)
 
       module _ (n₉ : (eqb class 9 && b) ≡ false) {o : Operand} (e : o ≡ constant_or f at main) where
-        jump-by : {t : Bool} → bad at ≡ t → decided class (eqb f.fsf 12) (top p) (bad at) b ≡ cond t halts computes
+        jump_by : {t : Bool} → bad at ≡ t → decided class (eqb f.fsf 12) (top p) (bad at) b ≡ cond t halts computes
         unfolding decided
-        jump-by d = rw (not_top, le-leb 7 class from, n₈, n₉, d)
+        jump_by d = rw (not_top, le-leb 7 class from, n₈, n₉, d)
 
-        pub jumps-held : {x : End} {v : ℕ} {t : Triple} → o ≡ operand.Held v → ((mf df : ℕ) → to_p df ≡ true → t ≡ ALU (f.fsf, mf, df, r, v, b))
+        pub jumps_held : {x : End} {v : ℕ} {t : Triple} → o ≡ operand.Held v → ((mf df : ℕ) → to_p df ≡ true → t ≡ ALU (f.fsf, mf, df, r, v, b))
             → x ≡ completed m (alone (delivered m f (p + 1) t)) (ram main ports) trail used → x ≡ step
         unfolding executed
-        jumps-held {x} {v} {t} h l z =
-            let d = held-told main e h in
-            z ∙ rw (← next_is, l f.msf f.dsf (rw D.fields.of_dsf (jump_to_p w to-p-class))) (held_once computes (jump-by d.0) {r' = r} {v = v} (jump_operands f at r main ports jump-fsf ∙ d.1))
+        jumps_held {x} {v} {t} h l z =
+            let d = held_told main e h in
+            z ∙ rw (← next_is, l f.msf f.dsf (rw D.fields.of_dsf (jump_to_p w to_p_class))) (held_once computes (jump_by d.0) {r' = r} {v = v} (jump_operands f at r main ports jump_fsf ∙ d.1))
 
-        pub jumps-bad : {x : End} → o ≡ operand.Bad → x ≡ flagged (p + 1) b true → x ≡ step
-        jumps-bad h z = halts_once (jump-by (bad-told main e h)) z
+        pub jumps_bad : {x : End} → o ≡ operand.Bad → x ≡ flagged (p + 1) b true → x ≡ step
+        jumps_bad h z = halts_once (jump_by (bad_told main e h)) z
 
-        pub jumps-lacking : o ≡ operand.Unfitted → ended came_case.Unfitted (ram main ports) trail ≡ step
-        jumps-lacking h = let d = lacking-told main e h in lacking_once computes (jump-by d.0) (jump_operands f at r main ports jump-fsf ∙ d.1)
+        pub jumps_lacking : o ≡ operand.Unfitted → ended came_case.Unfitted (ram main ports) trail ≡ step
+        jumps_lacking h = let d = lacking_told main e h in lacking_once computes (jump_by d.0) (jump_operands f at r main ports jump_fsf ∙ d.1)

@@ -18,19 +18,19 @@ module _ (fixed bytes : List ℕ) (i at : ℕ) where
   all_compared h = rw (drop_of_length-le fixed h)
 
   module _ (more : i < length fixed) where
-    pub bytes-end : length bytes ≤ at → begins (drop i fixed) (drop at bytes) ≡ false
+    pub bytes_end : length bytes ≤ at → begins (drop i fixed) (drop at bytes) ≡ false
     unfolding begins
-    bytes-end h = rw (drop-cons fixed i 0 more, drop_of_length-le bytes h)
+    bytes_end h = rw (drop-cons fixed i 0 more, drop_of_length-le bytes h)
 
-    pub byte-differs : at < length bytes → (get_or bytes at 0 ≡ get_or fixed i 0 → ⊥) → begins (drop i fixed) (drop at bytes) ≡ false
+    pub byte_differs : at < length bytes → (get_or bytes at 0 ≡ get_or fixed i 0 → ⊥) → begins (drop i fixed) (drop at bytes) ≡ false
     unfolding begins
-    byte-differs g h =
+    byte_differs g h =
         rw (drop-cons fixed i 0 more, drop-cons bytes at 0 g, ne_eqb (get_or fixed i 0) (get_or bytes at 0) (λ e. h (sym e)))
 
-    pub byte-same : at < length bytes → get_or bytes at 0 ≡ get_or fixed i 0
+    pub byte_same : at < length bytes → get_or bytes at 0 ≡ get_or fixed i 0
         → begins (drop i fixed) (drop at bytes) ≡ begins (drop (i + 1) fixed) (drop (at + 1) bytes)
     unfolding begins
-    byte-same g h =
+    byte_same g h =
         rw (drop-cons fixed i 0 more, drop-cons bytes at 0 g, eq-eqb (get_or fixed i 0) (get_or bytes at 0) (sym h), add-one, add-one)
 
 pub begins_itself : (fixed rest : List ℕ) → begins fixed (fixed ++ rest) ≡ true

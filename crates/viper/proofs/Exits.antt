@@ -113,18 +113,18 @@ module _ (m : Machine) (main ports trail : List ℕ) (used : ℕ) where
 
   -- a run of one step
   module _ (l : Lawful m.p (length main) (length ports) (length trail) used) (live : m.stop ≡ false) where
-    one-step : (u f : Bool) → answer (operate step) b ≡ cond u (Refused Unfitted) (cond f (Refused TrailFull) Done)
+    one_step : (u f : Bool) → answer (operate step) b ≡ cond u (Refused Unfitted) (cond f (Refused TrailFull) Done)
         → record { answered = answer_by (over_and_over 1 b).ended; bench = (over_and_over 1 b).bench } ≡ outcome step b
-    one-step true f e = rw (turn 0 b (Refused Unfitted) live e) (refused step b Unfitted e)
-    one-step false true e = rw (turn 0 b (Refused TrailFull) live e) (refused step b TrailFull e)
-    one-step false false e = rw (turn 0 b Done live e) (go (done step b).state.6 refl)
+    one_step true f e = rw (turn 0 b (Refused Unfitted) live e) (refused step b Unfitted e)
+    one_step false true e = rw (turn 0 b (Refused TrailFull) live e) (refused step b TrailFull e)
+    one_step false false e = rw (turn 0 b Done live e) (go (done step b).state.6 refl)
       where
         go : (t : Bool) → (done step b).state.6 ≡ t → record { answered = answer_by (over_and_over 0 (done step b)).ended; bench = (over_and_over 0 (done step b)).bench } ≡ outcome step b
         go true h = rw (stops 0 (done step b) h) (accepted step b e)
         go false h = rw (out_of_budget (done step b) h) (accepted step b e)
 
-    pub stepped-once : (o : Ran) → o ≡ over_and_over 1 b → record { answered = answer_by o.ended; bench = o.bench } ≡ outcome step b
-    stepped-once o e = rw e (one-step (step_unfitted b.state) (ltb (length trail - used) (length (record_for step b.state))) (answer_is m main ports trail used l live))
+    pub stepped_once : (o : Ran) → o ≡ over_and_over 1 b → record { answered = answer_by o.ended; bench = o.bench } ≡ outcome step b
+    stepped_once o e = rw e (one_step (step_unfitted b.state) (ltb (length trail - used) (length (record_for step b.state))) (answer_is m main ports trail used l live))
 
   -- ---- run
 
@@ -165,9 +165,9 @@ module _ (k : Kind) (m after : Machine) (r : Mem) (trail : List ℕ) (used : ℕ
   noted_p h = rw (le-leb (2 ^ 20) m.p h)
 
   module _ (low : m.p < 2 ^ 20) where
-    pub noted-count : length trail < used → record { answered = Refused CountTooLarge; bench = as_was } ≡ noted k m after r trail used
+    pub noted_count : length trail < used → record { answered = Refused CountTooLarge; bench = as_was } ≡ noted k m after r trail used
     unfolding noted
-    noted-count h = rw (lt-leb (2 ^ 20) m.p low, lt-ltb (length trail) used h)
+    noted_count h = rw (lt-leb (2 ^ 20) m.p low, lt-ltb (length trail) used h)
 
     module _ (within : used ≤ length trail) (o : OldValues) (a : Added) (t : List ℕ) (ho : o ≡ old_values k m after kept.Kept) (ha : (a, t) ≡ added trail used (record_bytes o)) where
       abbrev bytes : List ℕ
@@ -177,13 +177,13 @@ module _ (k : Kind) (m after : Machine) (r : Mem) (trail : List ℕ) (used : ℕ
       unfolding added
       added_is = ha ∙ ap (λ (q : OldValues). added trail used (record_bytes q)) ho
 
-      noted-is : noted k m after r trail used
+      noted_is : noted k m after r trail used
           ≡ noted_by (when (ltb (length trail - used) (length bytes)) TrailFull) (record { state = state after r; trail = put trail used bytes; used = used + length bytes }) as_was
       unfolding noted
-      noted-is = rw (lt-leb (2 ^ 20) m.p low, le-ltb (length trail) used within)
+      noted_is = rw (lt-leb (2 ^ 20) m.p low, le-ltb (length trail) used within)
 
-      pub noted-full : a ≡ added_case.Full → record { answered = Refused TrailFull; bench = record { state = state m r; trail = t; used = used } } ≡ noted k m after r trail used
-      noted-full e = go (ltb (length trail - used) (length bytes)) added_is ∙ sym noted-is
+      pub noted_full : a ≡ added_case.Full → record { answered = Refused TrailFull; bench = record { state = state m r; trail = t; used = used } } ≡ noted k m after r trail used
+      noted_full e = go (ltb (length trail - used) (length bytes)) added_is ∙ sym noted_is
         where
           go : (f : Bool) → ◌≡◌ {A = Added × List ℕ} (a, t) (cond f (added_case.Full, trail) (added_case.Used (used + length bytes), put trail used bytes))
               → record { answered = Refused TrailFull; bench = record { state = state m r; trail = t; used = used } }
@@ -194,8 +194,8 @@ module _ (k : Kind) (m after : Machine) (r : Mem) (trail : List ℕ) (used : ℕ
               let z : ◌≡◌ {A = ℕ} 0 1 = cc in
               absurd (omega arith)
 
-      pub noted-done : (n : ℕ) → a ≡ added_case.Used n → record { answered = Done; bench = record { state = state after r; trail = t; used = n } } ≡ noted k m after r trail used
-      noted-done n e = go (ltb (length trail - used) (length bytes)) added_is ∙ sym noted-is
+      pub noted_done : (n : ℕ) → a ≡ added_case.Used n → record { answered = Done; bench = record { state = state after r; trail = t; used = n } } ≡ noted k m after r trail used
+      noted_done n e = go (ltb (length trail - used) (length bytes)) added_is ∙ sym noted_is
         where
           go : (f : Bool) → ◌≡◌ {A = Added × List ℕ} (a, t) (cond f (added_case.Full, trail) (added_case.Used (used + length bytes), put trail used bytes))
               → record { answered = Done; bench = record { state = state after r; trail = t; used = n } }
@@ -224,22 +224,22 @@ module _ (m : Machine) (main ports trail : List ℕ) (used : ℕ) (q : Place) (v
 
   module _ (a : Answer) (k : a ≡ first_refusals m.p (length main) (length ports) (length trail) used) (d : a ≡ Done) where
     -- 5, then 6
-    set-answer : answer (operate (set_word q v)) bs
+    set_answer : answer (operate (set_word q v)) bs
         ≡ or_else (when (not (fitted (ram main ports) (where_of q))) Unfitted) (when (ltb (length trail - used) (length rec)) TrailFull)
-    set-answer =
+    set_answer =
         first_then (operate (set_word q v)) m main ports trail used refl
         ∙ ap (λ (x : Answer). or_else x (later (operate (set_word q v)) bs)) (sym k ∙ d)
         ∙ ap (or_else (when (not (fitted (ram main ports) (where_of q))) Unfitted)) (alone (ltb (length trail - used) (length rec)) TrailFull)
 
-    pub set-unfitted : (t : Bool) → t ≡ view_fitted (length main) (length ports) q 1 → t ≡ false → record { answered = Refused Unfitted; bench = bs } ≡ outcome (set_word q v) bs
-    set-unfitted t h f = refused (set_word q v) bs Unfitted (set-answer ∙ rw (sym (view_one main ports q) ∙ (sym h ∙ f)))
+    pub set_unfitted : (t : Bool) → t ≡ view_fitted (length main) (length ports) q 1 → t ≡ false → record { answered = Refused Unfitted; bench = bs } ≡ outcome (set_word q v) bs
+    set_unfitted t h f = refused (set_word q v) bs Unfitted (set_answer ∙ rw (sym (view_one main ports q) ∙ (sym h ∙ f)))
 
     module _ (t : Bool) (h : t ≡ view_fitted (length main) (length ports) q 1) (f : t ≡ true) where
       has : fitted (ram main ports) (where_of q) ≡ true
       has = sym (view_one main ports q) ∙ (sym h ∙ f)
 
-      pub set-fitted : Fitted (ram main ports) (where_of q)
-      set-fitted = record { has = has; low = low_of (where_of q) has }
+      pub set_fitted : Fitted (ram main ports) (where_of q)
+      set_fitted = record { has = has; low = low_of (where_of q) has }
         where
           l : Lawful m.p (length main) (length ports) (length trail) used
           l = passed m.p (length main) (length ports) (length trail) used a k d
@@ -247,10 +247,10 @@ module _ (m : Machine) (main ports trail : List ℕ) (used : ℕ) (q : Place) (v
           low_of : (w : Where) → fitted (ram main ports) w ≡ true → w.1 < 2 ^ 20
           low_of w e = fitted_low (ram main ports) w l.main_le l.ports_le e
 
-      set-finished : finished kind.Set m (record { machine = m; written = write.Word q v }) (ram main ports) trail used
+      set_finished : finished kind.Set m (record { machine = m; written = write.Word q v }) (ram main ports) trail used
           ≡ cond (ltb (length trail - used) (length rec)) (left added_case.Full (ram main ports) trail)
           (left (added_case.Used (used + length rec)) (with_word (ram main ports) (where_of q) v) (put trail used rec))
-      set-finished =
+      set_finished =
           let w = where_of q in
           let b = ram main ports in
           let e : write.Word (place_of w) (word_at (with_word b w v) w) ≡ write.Word q v = rw (place_where q, word_back b w.0 w.1 v has) in
@@ -258,20 +258,20 @@ module _ (m : Machine) (main ports trail : List ℕ) (used : ℕ) (q : Place) (v
 
       module _ (x : Added) (r : Mem) (t' : List ℕ) (e : left x r t' ≡ finished kind.Set m (record { machine = m; written = write.Word q v }) (ram main ports) trail used) where
         pub set_full : x ≡ added_case.Full → record { answered = Refused TrailFull; bench = record { state = state m r; trail = t'; used = used } } ≡ outcome (set_word q v) bs
-        set_full z = go (ltb (length trail - used) (length rec)) refl (e ∙ set-finished)
+        set_full z = go (ltb (length trail - used) (length rec)) refl (e ∙ set_finished)
           where
             go : (f : Bool) → ltb (length trail - used) (length rec) ≡ f
                 → left x r t' ≡ cond f (left added_case.Full (ram main ports) trail) (left (added_case.Used (used + length rec)) (with_word (ram main ports) (where_of q) v) (put trail used rec))
                 → record { answered = Refused TrailFull; bench = record { state = state m r; trail = t'; used = used } } ≡ outcome (set_word q v) bs
             go true u p =
-                rw (ap (λ (y : Finish). y.stores) p, ap (λ (y : Finish). y.trail) p) (refused (set_word q v) bs TrailFull (set-answer ∙ rw (has, u)))
+                rw (ap (λ (y : Finish). y.stores) p, ap (λ (y : Finish). y.trail) p) (refused (set_word q v) bs TrailFull (set_answer ∙ rw (has, u)))
             go false u p =
                 let y : x ≡ added_case.Used (used + length rec) = ap (λ (y : Finish). y.answered) p in
                 let o : ◌≡◌ {A = ℕ} 0 1 = cc in
                 absurd (omega arith)
 
-        pub set-done : (n : ℕ) → x ≡ added_case.Used n → record { answered = Done; bench = record { state = state m r; trail = t'; used = n } } ≡ outcome (set_word q v) bs
-        set-done n z = go (ltb (length trail - used) (length rec)) refl (e ∙ set-finished)
+        pub set_done : (n : ℕ) → x ≡ added_case.Used n → record { answered = Done; bench = record { state = state m r; trail = t'; used = n } } ≡ outcome (set_word q v) bs
+        set_done n z = go (ltb (length trail - used) (length rec)) refl (e ∙ set_finished)
           where
             go : (f : Bool) → ltb (length trail - used) (length rec) ≡ f
                 → left x r t' ≡ cond f (left added_case.Full (ram main ports) trail) (left (added_case.Used (used + length rec)) (with_word (ram main ports) (where_of q) v) (put trail used rec))
@@ -283,7 +283,7 @@ module _ (m : Machine) (main ports trail : List ℕ) (used : ℕ) (q : Place) (v
             go false u p =
                 let y : added_case.Used n ≡ added_case.Used (used + length rec) = sym z ∙ ap (λ (y : Finish). y.answered) p in
                 let j : n ≡ used + length rec = cc in
-                rw (ap (λ (y : Finish). y.stores) p, ap (λ (y : Finish). y.trail) p, j) (accepted (set_word q v) bs (set-answer ∙ rw (has, u)))
+                rw (ap (λ (y : Finish). y.stores) p, ap (λ (y : Finish). y.trail) p, j) (accepted (set_word q v) bs (set_answer ∙ rw (has, u)))
 
 -- ---- take back
 
@@ -307,28 +307,28 @@ module _ (m : Machine) (main ports trail : List ℕ) (used : ℕ) (a : Answer) (
     back_answer : answer back bb ≡ or_else (when (eqb used 0) NothingInUse) (when (broken (newest_of bb)) BrokenRecord)
     back_answer = first_then back m main ports trail used refl ∙ ap (λ (x : Answer). or_else x (later back bb)) (sym k ∙ d)
 
-    pub back-nothing : used ≡ 0 → record { answered = Refused NothingInUse; bench = bb } ≡ back_outcome bb
-    back-nothing z = back_refused NothingInUse (back_answer ∙ ap (λ (t : Bool). or_else (when t NothingInUse) (when (broken (newest_of bb)) BrokenRecord)) (eq-eqb used 0 z))
+    pub back_nothing : used ≡ 0 → record { answered = Refused NothingInUse; bench = bb } ≡ back_outcome bb
+    back_nothing z = back_refused NothingInUse (back_answer ∙ ap (λ (t : Bool). or_else (when t NothingInUse) (when (broken (newest_of bb)) BrokenRecord)) (eq-eqb used 0 z))
 
-    module _ (some-used : used ≡ 0 → ⊥) (x : Newest) (h : x ≡ newest_of bb) where
-      back-later : answer back bb ≡ when (broken x) BrokenRecord
-      back-later =
+    module _ (some_used : used ≡ 0 → ⊥) (x : Newest) (h : x ≡ newest_of bb) where
+      back_later : answer back bb ≡ when (broken x) BrokenRecord
+      back_later =
           back_answer
-          ∙ ap (λ (t : Bool). or_else (when t NothingInUse) (when (broken (newest_of bb)) BrokenRecord)) (ne_eqb used 0 some-used)
+          ∙ ap (λ (t : Bool). or_else (when t NothingInUse) (when (broken (newest_of bb)) BrokenRecord)) (ne_eqb used 0 some_used)
           ∙ ap (λ (y : Newest). when (broken y) BrokenRecord) (sym h)
 
-      pub back-broken : x ≡ newest.Broken → record { answered = Refused BrokenRecord; bench = bb } ≡ back_outcome bb
-      back-broken z = back_refused BrokenRecord (back-later ∙ ap (λ (y : Newest). when (broken y) BrokenRecord) z)
+      pub back_broken : x ≡ newest.Broken → record { answered = Refused BrokenRecord; bench = bb } ≡ back_outcome bb
+      back_broken z = back_refused BrokenRecord (back_later ∙ ap (λ (y : Newest). when (broken y) BrokenRecord) z)
 
-      pub back-ready : (o : OldValues) (n : ℕ) → x ≡ newest.Record o n → record { answered = Done; bench = put_back (newest.Record o n) bb } ≡ back_outcome bb
-      back-ready o n z =
-          let ok : answer back bb ≡ Done = back-later ∙ ap (λ (y : Newest). when (broken y) BrokenRecord) z in
+      pub back_ready : (o : OldValues) (n : ℕ) → x ≡ newest.Record o n → record { answered = Done; bench = put_back (newest.Record o n) bb } ≡ back_outcome bb
+      back_ready o n z =
+          let ok : answer back bb ≡ Done = back_later ∙ ap (λ (y : Newest). when (broken y) BrokenRecord) z in
           let nw : newest_of bb ≡ newest.Record o n = sym h ∙ z in
           rw (ok, nw)
 
     -- the word of a record that was read is fitted
-    pub back-refits : (some-used : used ≡ 0 → ⊥) (x : Newest) (o : OldValues) (n : ℕ) → x ≡ newest_of bb → x ≡ newest.Record o n → Refits (ram main ports) o
-    back-refits some-used x o n h z mark =
+    pub back_refits : (some_used : used ≡ 0 → ⊥) (x : Newest) (o : OldValues) (n : ℕ) → x ≡ newest_of bb → x ≡ newest.Record o n → Refits (ram main ports) o
+    back_refits some_used x o n h z mark =
         let l = passed m.p (length main) (length ports) (length trail) used a k d in
         let s = newest_fitted_stands (length main) (length ports) {trail = trail} {used = used} {o = o} {n = n} (omega arith) l.used_le (sym h ∙ z) in
         let f : fitted (ram main ports) (where_of_number o.place) ≡ true = sym (fits_fitted (ram main ports) (where_of_number o.place)) ∙ s.1 mark in

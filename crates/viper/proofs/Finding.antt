@@ -28,10 +28,10 @@ use Rattle.viper.specs.TakingBack.{back_outcome}
 use Rattle.viper.specs.Finding.{Marks, Restores}
 use Rattle.viper.specs.Judging.{first_refusals}
 use Rattle.viper.specs.Told.{bench}
-use Rattle.viper.proofs.Exits.{back-broken, back-ready, restored_parts, none_restored}
+use Rattle.viper.proofs.Exits.{back_broken, back_ready, restored_parts, none_restored}
 
 -- No refusal before 8.
-module _ (m : Machine) (main ports trail : List ℕ) (used : ℕ) (a : Answer) (k : a ≡ first_refusals m.p (length main) (length ports) (length trail) used) (d : a ≡ Done) (some-used : used ≡ 0 → ⊥) where
+module _ (m : Machine) (main ports trail : List ℕ) (used : ℕ) (a : Answer) (k : a ≡ first_refusals m.p (length main) (length ports) (length trail) used) (d : a ≡ Done) (some_used : used ≡ 0 → ⊥) where
   pub restores : (x : Newest) (o : OldValues) (n : ℕ) (t : Marked) (r : Mem) → x ≡ newest_of (bench m main ports trail used) → x ≡ newest.Record o n → r ≡ stores_restored o (ram main ports) → Marks t o.marks
       → Restores r (bench m main ports trail used) o n t
   restores x o n t r h z f w =
@@ -39,7 +39,7 @@ module _ (m : Machine) (main ports trail : List ℕ) (used : ℕ) (a : Answer) (
         outcome =
             ap (λ (s : State). record { answered = Done; bench = record { state = s; trail = trail; used = n } })
             (restored_parts o m main ports (machine_of (restored o (state m (ram main ports)))) r refl f)
-            ∙ back-ready m main ports trail used a k d some-used x h o n z;
+            ∙ back_ready m main ports trail used a k d some_used x h o n z;
         marks = w;
       }
 
@@ -49,17 +49,17 @@ module _ (m : Machine) (main ports trail : List ℕ) (used : ℕ) (a : Answer) (
       held : (w : ℕ) (t : Marked) → Holds (newest_of (bench m main ports trail used)) o n w → (o.marks / 8 % 2 ≡ 1 → ⊥) → Marks t o.marks → Restores (ram main ports) (bench m main ports trail used) o n t
       held w t h no_word = restores (newest_of (bench m main ports trail used)) o n t (ram main ports) refl h.holds (none_restored (ram main ports) o (ne_eqb (o.marks / 8 % 2) 1 no_word))
 
-      pub nothing-marked : r ≡ short.Kept o n → Restores (ram main ports) (bench m main ports trail used) o n marked_case.Nothing
-      nothing-marked s = let h : Holds (newest_of (bench m main ports trail used)) o n 0 = rw s at said in let z : o.marks % 16 ≡ 0 = h.marks in held 0 marked_case.Nothing h (omega arith) z
+      pub nothing_marked : r ≡ short.Kept o n → Restores (ram main ports) (bench m main ports trail used) o n marked_case.Nothing
+      nothing_marked s = let h : Holds (newest_of (bench m main ports trail used)) o n 0 = rw s at said in let z : o.marks % 16 ≡ 0 = h.marks in held 0 marked_case.Nothing h (omega arith) z
 
-      pub a-marked : r ≡ short.A o n → Restores (ram main ports) (bench m main ports trail used) o n marked_case.A
-      a-marked s = let h : Holds (newest_of (bench m main ports trail used)) o n 1 = rw s at said in let z : o.marks % 16 ≡ 1 = h.marks in held 1 marked_case.A h (omega arith) z
+      pub a_marked : r ≡ short.A o n → Restores (ram main ports) (bench m main ports trail used) o n marked_case.A
+      a_marked s = let h : Holds (newest_of (bench m main ports trail used)) o n 1 = rw s at said in let z : o.marks % 16 ≡ 1 = h.marks in held 1 marked_case.A h (omega arith) z
 
-      pub x-marked : r ≡ short.X o n → Restores (ram main ports) (bench m main ports trail used) o n marked_case.X
-      x-marked s = let h : Holds (newest_of (bench m main ports trail used)) o n 2 = rw s at said in let z : o.marks % 16 ≡ 2 = h.marks in held 2 marked_case.X h (omega arith) z
+      pub x_marked : r ≡ short.X o n → Restores (ram main ports) (bench m main ports trail used) o n marked_case.X
+      x_marked s = let h : Holds (newest_of (bench m main ports trail used)) o n 2 = rw s at said in let z : o.marks % 16 ≡ 2 = h.marks in held 2 marked_case.X h (omega arith) z
 
-      pub y-marked : r ≡ short.Y o n → Restores (ram main ports) (bench m main ports trail used) o n marked_case.Y
-      y-marked s = let h : Holds (newest_of (bench m main ports trail used)) o n 4 = rw s at said in let z : o.marks % 16 ≡ 4 = h.marks in held 4 marked_case.Y h (omega arith) z
+      pub y_marked : r ≡ short.Y o n → Restores (ram main ports) (bench m main ports trail used) o n marked_case.Y
+      y_marked s = let h : Holds (newest_of (bench m main ports trail used)) o n 4 = rw s at said in let z : o.marks % 16 ≡ 4 = h.marks in held 4 marked_case.Y h (omega arith) z
 
-    pub short-broken : r ≡ short.Broken → record { answered = Refused BrokenRecord; bench = bench m main ports trail used } ≡ back_outcome (bench m main ports trail used)
-    short-broken s = back-broken m main ports trail used a k d some-used (newest_of (bench m main ports trail used)) refl (rw s at said)
+    pub short_broken : r ≡ short.Broken → record { answered = Refused BrokenRecord; bench = bench m main ports trail used } ≡ back_outcome (bench m main ports trail used)
+    short_broken s = back_broken m main ports trail used a k d some_used (newest_of (bench m main ports trail used)) refl (rw s at said)

@@ -141,38 +141,38 @@ module _ (m : Machine) (main ports trail : List ℕ) (used : ℕ) (l : Lawful m.
         go true h q = let z : ◌≡◌ {A = ℕ} 0 1 = cc in absurd (omega arith)
         go false h q = h
 
-    pub change-is : c ≡ change_of s
+    pub change_is : c ≡ change_of s
     unfolding planned
-    change-is = let q : phases.Go c ≡ phases.Go (change_of s) = rw fits at e in cc
+    change_is = let q : phases.Go c ≡ phases.Go (change_of s) = rw fits at e in cc
 
     -- the place that is written is fitted
-    no-lack : lacks (ram main ports) (written s) ≡ false
+    no_lack : lacks (ram main ports) (written s) ≡ false
     unfolding step_unfitted
-    no-lack =
+    no_lack =
         let two = either_false (lacks (ram main ports) (some (false, m.p))) (lacks (ram main ports) (reads s) || lacks (ram main ports) (written s)) fits in
         (either_false (lacks (ram main ports) (reads s)) (lacks (ram main ports) (written s)) two.1).1
 
     pub addressed : Addressed (ram main ports) c.written
-    addressed = rw change-is (go (written s) refl no-lack)
+    addressed = rw change_is (go (written s) refl no_lack)
       where
         go : (q : Option Where) → written s ≡ q → lacks (ram main ports) q ≡ false → Addressed (ram main ports) (writing q (NEXT s).0)
         go none h k = tt
         go (some q) h k = rw (where_place q) (record { has = not-false _ k; low = written_low (part s) (word s) s.3 s.4 q h })
 
     -- the stores that the change leaves are NEXT's
-    stores-are : rewritten (ram main ports) (writing (written s) (NEXT s).0) ≡ (NEXT s).0
-    stores-are = rw (next_by_parts s g) (after_ram (part s) (word s) s no-lack)
+    stores_are : rewritten (ram main ports) (writing (written s) (NEXT s).0) ≡ (NEXT s).0
+    stores_are = rw (next_by_parts s g) (after_ram (part s) (word s) s no_lack)
 
     -- the change once finished: refusal 6, or the operation done
-    finished-step : finished kind.Step m c (ram main ports) trail used
+    finished_step : finished kind.Step m c (ram main ports) trail used
         ≡ cond (ltb (length trail - used) (length (record_for step s))) (left added_case.Full (ram main ports) trail)
         (left (added_case.Used (used + length (record_for step s))) (NEXT s).0 (put trail used (record_for step s)))
-    finished-step = rw change-is (finished_between kind.Step s (NEXT s) (written s) trail used stores-are)
+    finished_step = rw change_is (finished_between kind.Step s (NEXT s) (written s) trail used stores_are)
 
     -- the ways out of `finish`
-    pub no-room-left : (a : Added) (r : Mem) (t : List ℕ) → left a r t ≡ finished kind.Step m c (ram main ports) trail used → a ≡ added_case.Full
+    pub no_room_left : (a : Added) (r : Mem) (t : List ℕ) → left a r t ≡ finished kind.Step m c (ram main ports) trail used → a ≡ added_case.Full
         → (answer (operate step) b ≡ Refused refusal.TrailFull) × (r ≡ ram main ports) × (t ≡ trail)
-    no-room-left a r t h k = go (ltb (length trail - used) (length (record_for step s))) refl (h ∙ finished-step)
+    no_room_left a r t h k = go (ltb (length trail - used) (length (record_for step s))) refl (h ∙ finished_step)
       where
         go : (f : Bool) → ltb (length trail - used) (length (record_for step s)) ≡ f
             → left a r t ≡ cond f (left added_case.Full (ram main ports) trail) (left (added_case.Used (used + length (record_for step s))) (NEXT s).0 (put trail used (record_for step s)))
@@ -191,7 +191,7 @@ module _ (m : Machine) (main ports trail : List ℕ) (used : ℕ) (l : Lawful m.
       pub within : used + length (record_for step s) ≤ length trail
 
     pub stepped : (a : Added) (n : ℕ) (r : Mem) (t : List ℕ) → left a r t ≡ finished kind.Step m c (ram main ports) trail used → a ≡ added_case.Used n → Stepped n r t
-    stepped a n r t h k = go (ltb (length trail - used) (length (record_for step s))) refl (h ∙ finished-step)
+    stepped a n r t h k = go (ltb (length trail - used) (length (record_for step s))) refl (h ∙ finished_step)
       where
         go : (f : Bool) → ltb (length trail - used) (length (record_for step s)) ≡ f
             → left a r t ≡ cond f (left added_case.Full (ram main ports) trail) (left (added_case.Used (used + length (record_for step s))) (NEXT s).0 (put trail used (record_for step s)))
@@ -329,17 +329,17 @@ module _ {main₀ ports₀ trail₀ : List ℕ} {m₀ : Machine} {used budget : 
     less : steps < budget
     less = omega (arith, k.few)
 
-    pub leaves-unfitted : phases.Lacking ≡ planned (state m (ram main ports))
+    pub leaves_unfitted : phases.Lacking ≡ planned (state m (ram main ports))
         → record { bench = bench m main ports trail count; steps = steps; ended = ending.Unfitted } ≡ over_and_over budget (bench m₀ main₀ ports₀ trail₀ used)
-    leaves-unfitted e =
+    leaves_unfitted e =
         ends_refused budget _ steps (bench m main ports trail count) k.along refusal.Unfitted live less
         (planned_none m main ports trail count k.lawful k.range live e)
 
     module _ (c : Change) (e : phases.Go c ≡ planned (state m (ram main ports))) where
-      pub leaves-full : (a : Added) (r : Mem) (t : List ℕ) → left a r t ≡ finished kind.Step m c (ram main ports) trail count → a ≡ added_case.Full
+      pub leaves_full : (a : Added) (r : Mem) (t : List ℕ) → left a r t ≡ finished kind.Step m c (ram main ports) trail count → a ≡ added_case.Full
           → record { bench = record { state = state m r; trail = t; used = count }; steps = steps; ended = ending.Full } ≡ over_and_over budget (bench m₀ main₀ ports₀ trail₀ used)
-      leaves-full a r t h f =
-          let o = no-room-left m main ports trail count k.lawful k.range live c e a r t h f in
+      leaves_full a r t h f =
+          let o = no_room_left m main ports trail count k.lawful k.range live c e a r t h f in
           rw (o.1, o.2) (ends_refused budget _ steps (bench m main ports trail count) k.along refusal.TrailFull live less o.0)
 
       pub goes_on : (a : Added) (n : ℕ) (main' ports' trail' : List ℕ) → left a (ram main' ports') trail' ≡ finished kind.Step m c (ram main ports) trail count → a ≡ added_case.Used n
@@ -347,10 +347,10 @@ module _ {main₀ ports₀ trail₀ : List ℕ} {m₀ : Machine} {used budget : 
       goes_on a n main' ports' trail' h f =
           let s = state m (ram main ports) in
           let o = stepped m main ports trail count k.lawful k.range live c e a n (ram main' ports') trail' h f in
-          let st : state c.machine (ram main' ports') ≡ NEXT s = rw (change-is m main ports trail count k.lawful k.range live c e, o.stores) in
+          let st : state c.machine (ram main' ports') ≡ NEXT s = rw (change_is m main ports trail count k.lawful k.range live c e, o.stores) in
           let now : done step (bench m main ports trail count) ≡ bench c.machine main' ports' trail' n = same_bench (sym st) (sym o.bytes) (sym o.count) in
           let z = written_size (ram main ports) (writing (written s) (NEXT s).0) in
-          let w = o.stores ∙ sym (stores-are m main ports trail count k.lawful k.range live c e) in
+          let w = o.stores ∙ sym (stores_are m main ports trail count k.lawful k.range live c e) in
           let lm : length main' ≡ length main = ap (λ (r : Mem). length r.main) w ∙ z.0 in
           let lp : length ports' ≡ length ports = ap (λ (r : Mem). length r.ports) w ∙ z.1 in
           let lt : length trail' ≡ length trail = ap length o.bytes ∙ put_length trail count (record_for step s) o.within in
@@ -368,18 +368,18 @@ module _ {main₀ ports₀ trail₀ : List ℕ} {m₀ : Machine} {used budget : 
     -- ---- the same, by what `step_once` answered and left
 
     module _ (a : AfterStep) (r : Mem) (t : List ℕ) (h : ended a r t ≡ once m (ram main ports) trail count) where
-      pub leaves-lacking : a ≡ stepped_case.Unfitted
+      pub leaves_lacking : a ≡ stepped_case.Unfitted
           → record { bench = record { state = state m r; trail = t; used = count }; steps = steps; ended = ending.Unfitted } ≡ over_and_over budget (bench m₀ main₀ ports₀ trail₀ used)
-      leaves-lacking f = go (planned (state m (ram main ports))) refl h
+      leaves_lacking f = go (planned (state m (ram main ports))) refl h
         where
           go : (p : Plan) → planned (state m (ram main ports)) ≡ p → ended a r t ≡ by_plan m (ram main ports) trail count p
               → record { bench = record { state = state m r; trail = t; used = count }; steps = steps; ended = ending.Unfitted } ≡ over_and_over budget (bench m₀ main₀ ports₀ trail₀ used)
-          go phases.Lacking q z = rw (ap (λ (x : End). x.stores) z, ap (λ (x : End). x.trail) z) (leaves-unfitted (sym q))
+          go phases.Lacking q z = rw (ap (λ (x : End). x.stores) z, ap (λ (x : End). x.trail) z) (leaves_unfitted (sym q))
           go (phases.Go c) q z = absurd (not_unfitted c.machine (finished kind.Step m c (ram main ports) trail count).answered (sym f ∙ ap (λ (x : End). x.answer) z))
 
-      pub leaves-without-room : a ≡ stepped_case.NoRoom
+      pub leaves_without_room : a ≡ stepped_case.NoRoom
           → record { bench = record { state = state m r; trail = t; used = count }; steps = steps; ended = ending.Full } ≡ over_and_over budget (bench m₀ main₀ ports₀ trail₀ used)
-      leaves-without-room f = go (planned (state m (ram main ports))) refl h
+      leaves_without_room f = go (planned (state m (ram main ports))) refl h
         where
           go : (p : Plan) → planned (state m (ram main ports)) ≡ p → ended a r t ≡ by_plan m (ram main ports) trail count p
               → record { bench = record { state = state m r; trail = t; used = count }; steps = steps; ended = ending.Full } ≡ over_and_over budget (bench m₀ main₀ ports₀ trail₀ used)
@@ -390,11 +390,11 @@ module _ {main₀ ports₀ trail₀ : List ℕ} {m₀ : Machine} {used budget : 
           go (phases.Go c) q z =
               let x = finished kind.Step m c (ram main ports) trail count in
               let full : x.answered ≡ added_case.Full = was_full c.machine x.answered (sym f ∙ ap (λ (x : End). x.answer) z) in
-              leaves-full c (sym q) added_case.Full r t (same_finish (sym full) (ap (λ (x : End). x.stores) z) (ap (λ (x : End). x.trail) z)) refl
+              leaves_full c (sym q) added_case.Full r t (same_finish (sym full) (ap (λ (x : End). x.stores) z) (ap (λ (x : End). x.trail) z)) refl
 
-    pub goes-on-after : (a : AfterStep) (m' : Machine) (n : ℕ) (main' ports' trail' : List ℕ) → ended a (ram main' ports') trail' ≡ once m (ram main ports) trail count → a ≡ stepped_case.Done m' n
+    pub goes_on_after : (a : AfterStep) (m' : Machine) (n : ℕ) (main' ports' trail' : List ℕ) → ended a (ram main' ports') trail' ≡ once m (ram main ports) trail count → a ≡ stepped_case.Done m' n
         → Going main₀ ports₀ trail₀ m₀ used budget main' ports' trail' m' n (steps + 1)
-    goes-on-after a m' n main' ports' trail' h f = go (planned (state m (ram main ports))) refl h
+    goes_on_after a m' n main' ports' trail' h f = go (planned (state m (ram main ports))) refl h
       where
         go : (p : Plan) → planned (state m (ram main ports)) ≡ p → ended a (ram main' ports') trail' ≡ by_plan m (ram main ports) trail count p
             → Going main₀ ports₀ trail₀ m₀ used budget main' ports' trail' m' n (steps + 1)

@@ -9,14 +9,14 @@ use Rattle.trail.specs.declared.Kind.{Kind}
 use Rattle.trail.specs.Records.{marked, where_of_number, old_values, record_bytes, put}
 use Rattle.trail.specs.declared.OldValues.{OldValues}
 use Rattle.trail.specs.declared.Word.TheVariants.{Kept}
-use Rattle.viper.specs.Refusals.{when, or_else, if-done}
+use Rattle.viper.specs.Refusals.{when, or_else, if_done}
 use Rattle.viper.specs.Operations.{Bench, Outcome}
 use Rattle.step.specs.Finishing.{Fitted}
 use Rattle.viper.specs.declared.Refusal.TheVariants.{PTooLarge, CountTooLarge, TrailFull}
 use Rattle.viper.specs.declared.Answer.{Answer}
 
 abbrev pub noted_by : Answer → Bench → Bench → Outcome
-noted_by a done b = record { answered = a; bench = if-done a done b }
+noted_by a done b = record { answered = a; bench = if_done a done b }
 
 unfoldable pub noted : Kind → Machine → Machine → Mem → List ℕ → ℕ → Outcome
 noted k m after ram trail used =

@@ -13,7 +13,7 @@ use Rattle.trail.specs.Newest.{newest_fitted}
 use Rattle.trail.specs.declared.Newest.{Newest}
 use Rattle.trail.specs.declared.Newest.TheVariants as newest
 use Rattle.step.specs.Phases.{lacks, step_unfitted}
-use Rattle.viper.specs.Refusals.{lowest, if-done}
+use Rattle.viper.specs.Refusals.{lowest, if_done}
 use Rattle.viper.specs.declared.Refusal.{Refusal}
 use Rattle.viper.specs.declared.Refusal.TheVariants.{PTooLarge, StoreTooLong, CountTooLarge, Stopped, Unfitted, TrailFull, NothingInUse, BrokenRecord}
 use Rattle.viper.specs.declared.Answer.{Answer}
@@ -139,4 +139,4 @@ done e b =
     }
 
 abbrev pub outcome : Operation → Bench → Outcome
-outcome e b = let a = answer (operate e) b in record { answered = a; bench = if-done a (done e b) b }
+outcome e b = let a = answer (operate e) b in record { answered = a; bench = if_done a (done e b) b }

@@ -38,6 +38,6 @@ lowest applies =
     (when (applies BrokenRecord) BrokenRecord)))))))
 
 -- The first if the call was accepted, the second if it was refused.
-abbrev pub if-done {ℓ} : {A : Type ℓ} → Answer → A → A → A
-if-done Done a b = a
-if-done (Refused r) a b = b
+abbrev pub if_done {ℓ} : {A : Type ℓ} → Answer → A → A → A
+if_done Done a b = a
+if_done (Refused r) a b = b

@@ -3,7 +3,7 @@
 use Rattle.trail.specs.Records.{restored}
 use Rattle.trail.specs.declared.Newest.{Newest}
 use Rattle.trail.specs.declared.Newest.TheVariants.{Record, Broken}
-use Rattle.viper.specs.Refusals.{if-done}
+use Rattle.viper.specs.Refusals.{if_done}
 use Rattle.viper.specs.Operations.{Bench, back, answer, newest_of, Outcome}
 
 abbrev pub put_back : Newest → Bench → Bench
@@ -11,4 +11,4 @@ put_back (Record o left) b = record { state = restored o b.state; trail = b.trai
 put_back Broken b = b
 
 abbrev pub back_outcome : Bench → Outcome
-back_outcome b = let a = answer back b in record { answered = a; bench = if-done a (put_back (newest_of b) b) b }
+back_outcome b = let a = answer back b in record { answered = a; bench = if_done a (put_back (newest_of b) b) b }

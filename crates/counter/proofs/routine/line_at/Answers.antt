@@ -5,7 +5,7 @@ use native.Mathlib.Numerals.{add-one}
 use lib.ListN.{drop}
 use Rattle.counter.specs.Routine.{line_after}
 use Rattle.text.proofs.Digits.{sixteens, sixteens_grow}
-use Rattle.counter.proofs.Reading.{line_ends, no_digit, one-digit, line_feed, no-line-feed}
+use Rattle.counter.proofs.Reading.{line_ends, no_digit, one_digit, line_feed, no_line_feed}
 use Rattle.counter.proofs.routine.line_at.Goals as goal
 
 pub loop-digits-init : goal.loop-digits-init
@@ -58,7 +58,7 @@ loop-digits-preserved c =
       rw add-one (omega arith),
       l.invariant.4
           ∙ rw (k, c.digit_value-value.ensures)
-          (one-digit text l.next (width - (l.digits + 1)) l.word (omega arith) (omega (arith, c.digit_value-value.ensures))),
+          (one_digit text l.next (width - (l.digits + 1)) l.word (omega arith) (omega (arith, c.digit_value-value.ensures))),
       l.invariant.5,
     )
 
@@ -83,4 +83,4 @@ returns c =
     let text = c.args.text.now in
     let width = c.args.width in
     let k : width - l.digits ≡ 0 = omega arith in
-    sym (l.invariant.4 ∙ rw k (no-line-feed text l.next 0 l.word (omega arith) c.if-text-next-eq10.false))
+    sym (l.invariant.4 ∙ rw k (no_line_feed text l.next 0 l.word (omega arith) c.if-text-next-eq10.false))

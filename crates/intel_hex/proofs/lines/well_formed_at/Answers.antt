@@ -1,7 +1,7 @@
 -- Each way out decides one part of the definition.
 -- Assumes nothing.
 use native.Mathlib.Omega.{arith}
-use Rattle.intel_hex.proofs.Fields.{no_line_there, no_colon_there, no-sum-there, ending-decides}
+use Rattle.intel_hex.proofs.Fields.{no_line_there, no_colon_there, no_sum_there, ending_decides}
 use Rattle.intel_hex.proofs.lines.well_formed_at.Goals as goal
 
 pub returns-then-at-text : goal.returns-then-at-text
@@ -14,8 +14,8 @@ returns-then-text-at-ne58 c =
 
 pub returns-then-sum_at-ne0 : goal.returns-then-sum_at-ne0
 returns-then-sum_at-ne0 c =
-    no-sum-there c.args.text.now c.args.at c.if-text-at-ne58.false c.byte_at-count.ensures.0 c.sum_at.ensures (omega arith)
+    no_sum_there c.args.text.now c.args.at c.if-text-at-ne58.false c.byte_at-count.ensures.0 c.sum_at.ensures (omega arith)
 
 pub returns : goal.returns
 returns c =
-    ending-decides c.args.text.now c.args.at c.if-text-at-ne58.false c.byte_at-count.ensures.0 c.sum_at.ensures (omega arith) c.ending_at.ensures.0
+    ending_decides c.args.text.now c.args.at c.if-text-at-ne58.false c.byte_at-count.ensures.0 c.sum_at.ensures (omega arith) c.ending_at.ensures.0

@@ -4,7 +4,7 @@ use mathlib.Core.Path.{ap, sym, ◌∙◌}
 use native.Mathlib.Omega.{arith}
 use Rattle.language.specs.declared.forms.Form.TheVariants.{Comparison, Write}
 use Rattle.language.specs.Line.{ignoring, function_form}
-use Rattle.language.proofs.ByClass.{comparison_form, word_form, write-form, result-form, fielded}
+use Rattle.language.proofs.ByClass.{comparison_form, word_form, write_form, result_form, fielded}
 use Rattle.language.proofs.forms.form_of.Goals as goal
 
 pub returns-then-class-eq0 : goal.returns-then-class-eq0
@@ -22,7 +22,7 @@ returns-then-class-lt4 c =
     let e = c.class_of-class.ensures in
     c.ignoring-then-class-lt4.ensures
     ∙ (ap (λ f. ignoring f Write) c.take_apart-f.ensures.of_fsf
-    ∙ sym (write-form w (omega (arith, e, c.if-class-eq0.false, c.if-class-eq1.false)) (omega (arith, e, c.if-class-lt4.true))))
+    ∙ sym (write_form w (omega (arith, e, c.if-class-eq0.false, c.if-class-eq1.false)) (omega (arith, e, c.if-class-lt4.true))))
 
 pub returns : goal.returns
 returns c =
@@ -30,4 +30,4 @@ returns c =
     let e = c.class_of-class.ensures in
     c.function_form.ensures
     ∙ (ap function_form (fielded c.take_apart-f.ensures)
-    ∙ sym (result-form w (omega (arith, e, c.if-class-lt4.false)) (omega (arith, e, c.if-class-lt4.false))))
+    ∙ sym (result_form w (omega (arith, e, c.if-class-lt4.false)) (omega (arith, e, c.if-class-lt4.false))))

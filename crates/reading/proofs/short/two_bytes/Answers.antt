@@ -7,7 +7,7 @@ use lib.ListN.{get_or}
 use lib.Seq.{slice}
 use mathlib.Core.List.{[], ◌∷◌}
 use Rattle.reading.proofs.ReadingNumbers.{last_byte, is_byte, no_byte}
-use Rattle.reading.proofs.ShortRecords.{marks_broken, p-kept, p-lacking, p-alone}
+use Rattle.reading.proofs.ShortRecords.{marks_broken, p_kept, p_lacking, p_alone}
 use Rattle.reading.proofs.short.two_bytes.Goals as goal
 
 pub returns-in_default : goal.returns-in_default
@@ -25,7 +25,7 @@ returns-then-marks-ne0 c =
     let s = a.trail.now in
     let m = marks in
     let b = last_byte s (a.end - 2 + 1) a.end (omega arith) (omega arith) in
-    p-alone a.kind s a.end 2 _ (omega arith) (omega arith) (omega arith) m.0 m.1 _ b c.if-marks-ne0.true
+    p_alone a.kind s a.end 2 _ (omega arith) (omega arith) (omega arith) m.0 m.1 _ b c.if-marks-ne0.true
 
 pub returns-in_default-read_number : goal.returns-in_default-read_number
 returns-in_default-read_number c =
@@ -36,7 +36,7 @@ returns-in_default-read_number c =
     let m = marks in
     let b = last_byte s (a.end - 2 + 1) a.end (omega arith) (omega arith) in
     let large = no_byte s (a.end - 2 + 1) a.end 128 (omega arith) (omega arith) (omega arith) c.read_number-2.ensures c.in_default-read_number.is in
-    p-lacking a.kind s a.end 2 _ (omega arith) (omega arith) (omega arith) m.0 m.1 _ b large
+    p_lacking a.kind s a.end 2 _ (omega arith) (omega arith) (omega arith) m.0 m.1 _ b large
 
 pub returns : goal.returns
 returns c =
@@ -47,4 +47,4 @@ returns c =
     let m = marks in
     let p = is_byte s (a.end - 2 + 1) a.end 128 (omega arith) (omega arith) (omega arith) c.read_number-2.ensures c.in-Got-read_number.is in
     let b : slice (a.end - 2 + 1) a.end s ≡ c.in-Got-read_number.p ∷ [] = rw (last_byte s (a.end - 2 + 1) a.end (omega arith) (omega arith), p.0) in
-    p-kept a.kind s a.end 2 _ (omega arith) (omega arith) (omega arith) m.0 m.1 _ b c.if-marks-ne0.false p.1
+    p_kept a.kind s a.end 2 _ (omega arith) (omega arith) (omega arith) m.0 m.1 _ b c.if-marks-ne0.false p.1

@@ -1,20 +1,20 @@
 -- `wide_p` meets its contract: nothing is marked, so P takes both bytes after the marks.
 -- Assumes nothing.
 use native.Mathlib.Omega.{arith}
-use Rattle.reading.proofs.ShortRecords.{no-p, p-ends, left_over}
+use Rattle.reading.proofs.ShortRecords.{no_p, p_ends, left_over}
 use Rattle.reading.proofs.short.wide_p.Goals as goal
 
 pub returns-in_default : goal.returns-in_default
 returns-in_default c =
     let a = c.args in
     let m = c.requires.2 in
-    no-p a.kind a.trail.now a.end 3 _ (omega arith) (omega arith) (omega arith) m.byte m.small c.read_number.ensures c.in_default.is
+    no_p a.kind a.trail.now a.end 3 _ (omega arith) (omega arith) (omega arith) m.byte m.small c.read_number.ensures c.in_default.is
 
 pub returns-then-next-end : goal.returns-then-next-end
 returns-then-next-end c =
     let a = c.args in
     let m = c.requires.2 in
-    p-ends a.kind a.trail.now a.end 3 _ (omega arith) (omega arith) (omega arith) m.byte m.small c.read_number.ensures c.in-Got.is c.requires.3 c.if-next-end.true
+    p_ends a.kind a.trail.now a.end 3 _ (omega arith) (omega arith) (omega arith) m.byte m.small c.read_number.ensures c.in-Got.is c.requires.3 c.if-next-end.true
 
 pub returns : goal.returns
 returns c =

@@ -14,7 +14,7 @@ use Rattle.machine.specs.declared.Machine.{Machine}
 use Rattle.step.specs.Phases.{held, next_p, Decodes}
 use Rattle.step.specs.Finishing.{once}
 use Rattle.step.proofs.Planning.{was_fetched}
-use Rattle.step.proofs.Completing.{kept_same, kept_before, fourth, fetch_lacking, top_once, compares-held, compares-bad, compares-lacking, always_once, write-bad, writes-once, writes-lacking}
+use Rattle.step.proofs.Completing.{kept_same, kept_before, fourth, fetch_lacking, top_once, compares_held, compares_bad, compares_lacking, always_once, write_bad, writes_once, writes_lacking}
 use Rattle.instruction.specs.Fields.{Fielded}
 use Rattle.instruction.specs.declared.Fields.{Fields}
 use Rattle.step.specs.Phases.{fetched}
@@ -87,7 +87,7 @@ returns-in-Held c =
     let main = a.main.now in
     let ports = a.ports.now in (
       kept_before c.finish_flags-in-Held.result a.sources.now g (a.p + 1) (kept_same c.finish_flags-in-Held.result g),
-      compares-held g a.p a.b main ports c.take_apart-f.result c.class_of-class.result c.register-r.result in_range decodes a.trail.now a.used c.if-class-eq0.true c.constant_or_read-o.ensures c.in-Held.is c.compare-test.ensures (c.finish_flags-in-Held.ensures (ram main ports) g)
+      compares_held g a.p a.b main ports c.take_apart-f.result c.class_of-class.result c.register-r.result in_range decodes a.trail.now a.used c.if-class-eq0.true c.constant_or_read-o.ensures c.in-Held.is c.compare-test.ensures (c.finish_flags-in-Held.ensures (ram main ports) g)
           ∙ ap (λ (m : Machine). once m (ram main ports) a.trail.now a.used) (fourth a.sources.now (a.p + 1) a.p a.b false),
     )
 
@@ -105,7 +105,7 @@ returns-in-Bad c =
     let main = a.main.now in
     let ports = a.ports.now in (
       kept_before c.finish_flags-in-Bad.result a.sources.now g (a.p + 1) (kept_same c.finish_flags-in-Bad.result g),
-      compares-bad g a.p a.b main ports c.take_apart-f.result c.class_of-class.result c.register-r.result in_range decodes a.trail.now a.used c.if-class-eq0.true c.constant_or_read-o.ensures c.in-Bad.is (c.finish_flags-in-Bad.ensures (ram main ports) g)
+      compares_bad g a.p a.b main ports c.take_apart-f.result c.class_of-class.result c.register-r.result in_range decodes a.trail.now a.used c.if-class-eq0.true c.constant_or_read-o.ensures c.in-Bad.is (c.finish_flags-in-Bad.ensures (ram main ports) g)
           ∙ ap (λ (m : Machine). once m (ram main ports) a.trail.now a.used) (fourth a.sources.now (a.p + 1) a.p a.b false),
     )
 
@@ -119,7 +119,7 @@ returns-in-Unfitted c =
     let main = a.main.now in
     let ports = a.ports.now in (
       sym (fourth a.sources.now (a.p + 1) 0 false false),
-      compares-lacking g a.p a.b main ports c.take_apart-f.result c.class_of-class.result c.register-r.result in_range decodes a.trail.now a.used c.if-class-eq0.true c.constant_or_read-o.ensures c.in-Unfitted.is
+      compares_lacking g a.p a.b main ports c.take_apart-f.result c.class_of-class.result c.register-r.result in_range decodes a.trail.now a.used c.if-class-eq0.true c.constant_or_read-o.ensures c.in-Unfitted.is
           ∙ ap (λ (m : Machine). once m (ram main ports) a.trail.now a.used) (fourth a.sources.now (a.p + 1) a.p a.b false),
     )
 
@@ -156,7 +156,7 @@ returns-then-at-ge1048576 c =
     let main = a.main.now in
     let ports = a.ports.now in (
       kept_before c.finish_flags-then-at-ge1048576.result a.sources.now g (a.p + 1) (kept_same c.finish_flags-then-at-ge1048576.result g),
-      write-bad g a.p a.b main ports c.take_apart-f.result c.class_of-class.result c.register-r.result in_range decodes a.trail.now a.used c.if-class-lt4.true c.if-class-eq0.false c.if-class-eq1.false (omega (arith, c.address-at.ensures, c.if-at-ge1048576.true)) (c.finish_flags-then-at-ge1048576.ensures (ram main ports) g)
+      write_bad g a.p a.b main ports c.take_apart-f.result c.class_of-class.result c.register-r.result in_range decodes a.trail.now a.used c.if-class-lt4.true c.if-class-eq0.false c.if-class-eq1.false (omega (arith, c.address-at.ensures, c.if-at-ge1048576.true)) (c.finish_flags-then-at-ge1048576.ensures (ram main ports) g)
           ∙ ap (λ (m : Machine). once m (ram main ports) a.trail.now a.used) (fourth a.sources.now (a.p + 1) a.p a.b false),
     )
 
@@ -170,7 +170,7 @@ returns-then-not-is_fitted c =
     let main = a.main.now in
     let ports = a.ports.now in (
       sym (fourth a.sources.now (a.p + 1) 0 false false),
-      writes-lacking g a.p a.b main ports c.take_apart-f.result c.class_of-class.result c.register-r.result in_range decodes a.trail.now a.used c.if-class-lt4.true c.if-class-eq0.false c.if-class-eq1.false (omega (arith, c.address-at.ensures, c.if-at-ge1048576.false)) (rw c.address-at.ensures at c.place_of-place.ensures) c.is_fitted.ensures c.if-not-is_fitted.true
+      writes_lacking g a.p a.b main ports c.take_apart-f.result c.class_of-class.result c.register-r.result in_range decodes a.trail.now a.used c.if-class-lt4.true c.if-class-eq0.false c.if-class-eq1.false (omega (arith, c.address-at.ensures, c.if-at-ge1048576.false)) (rw c.address-at.ensures at c.place_of-place.ensures) c.is_fitted.ensures c.if-not-is_fitted.true
           ∙ ap (λ (m : Machine). once m (ram main ports) a.trail.now a.used) (fourth a.sources.now (a.p + 1) a.p a.b false),
     )
 
@@ -192,7 +192,7 @@ returns-then-class-lt4 c =
     let main = a.main.now in
     let ports = a.ports.now in (
       kept_before c.finish_word.result a.sources.now g (a.p + 1) (kept_same c.finish_word.result g),
-      writes-once g a.p a.b main ports c.take_apart-f.result c.class_of-class.result c.register-r.result in_range decodes a.trail.now a.used c.if-class-lt4.true c.if-class-eq0.false c.if-class-eq1.false (omega (arith, c.address-at.ensures, c.if-at-ge1048576.false)) (rw c.address-at.ensures at c.place_of-place.ensures) c.is_fitted.ensures c.if-not-is_fitted.false (c.finish_word.ensures g)
+      writes_once g a.p a.b main ports c.take_apart-f.result c.class_of-class.result c.register-r.result in_range decodes a.trail.now a.used c.if-class-lt4.true c.if-class-eq0.false c.if-class-eq1.false (omega (arith, c.address-at.ensures, c.if-at-ge1048576.false)) (rw c.address-at.ensures at c.place_of-place.ensures) c.is_fitted.ensures c.if-not-is_fitted.false (c.finish_word.ensures g)
           ∙ ap (λ (m : Machine). once m (ram main ports) a.trail.now a.used) (fourth a.sources.now (a.p + 1) a.p a.b false),
     )
 

@@ -5,8 +5,8 @@ use native.Mathlib.Omega.{arith}
 use lib.ListN.{length}
 use Rattle.machine.specs.Held.{ram}
 use Rattle.viper.specs.declared.Marked.TheVariants.{Any}
-use Rattle.viper.proofs.Exits.{passed, back_first, back-nothing, back-broken, back-refits}
-use Rattle.viper.proofs.Finding.{restores, nothing-marked, a-marked, x-marked, y-marked, short-broken}
+use Rattle.viper.proofs.Exits.{passed, back_first, back_nothing, back_broken, back_refits}
+use Rattle.viper.proofs.Finding.{restores, nothing_marked, a_marked, x_marked, y_marked, short_broken}
 use Rattle.viper.proofs.back.restore_stores.Goals as goal
 
 pub returns-in-Refused : goal.returns-in-Refused
@@ -19,7 +19,7 @@ pub returns-then-used-eq0 : goal.returns-then-used-eq0
 returns-then-used-eq0 c =
     let a = c.args in
     let j = c.judge-first in
-    back-nothing a.m a.main.now a.ports.now a.trail.now a.used j.result j.ensures c.in_default.is c.if-used-eq0.true
+    back_nothing a.m a.main.now a.ports.now a.trail.now a.used j.result j.ensures c.in_default.is c.if-used-eq0.true
 
 pub read_short-short-requires : goal.read_short-short-requires
 read_short-short-requires c =
@@ -34,31 +34,31 @@ pub returns-in-Kept : goal.returns-in-Kept
 returns-in-Kept c =
     let a = c.args in
     let j = c.judge-first in
-    nothing-marked a.m a.main.now a.ports.now a.trail.now a.used j.result j.ensures c.in_default.is c.if-used-eq0.false c.read_short-short.result _ (c.read_short-short.ensures (length a.main.now) (length a.ports.now)) c.in-Kept.o c.in-Kept.left c.in-Kept.is
+    nothing_marked a.m a.main.now a.ports.now a.trail.now a.used j.result j.ensures c.in_default.is c.if-used-eq0.false c.read_short-short.result _ (c.read_short-short.ensures (length a.main.now) (length a.ports.now)) c.in-Kept.o c.in-Kept.left c.in-Kept.is
 
 pub returns-in-A : goal.returns-in-A
 returns-in-A c =
     let a = c.args in
     let j = c.judge-first in
-    a-marked a.m a.main.now a.ports.now a.trail.now a.used j.result j.ensures c.in_default.is c.if-used-eq0.false c.read_short-short.result _ (c.read_short-short.ensures (length a.main.now) (length a.ports.now)) c.in-A.o c.in-A.left c.in-A.is
+    a_marked a.m a.main.now a.ports.now a.trail.now a.used j.result j.ensures c.in_default.is c.if-used-eq0.false c.read_short-short.result _ (c.read_short-short.ensures (length a.main.now) (length a.ports.now)) c.in-A.o c.in-A.left c.in-A.is
 
 pub returns-in-X : goal.returns-in-X
 returns-in-X c =
     let a = c.args in
     let j = c.judge-first in
-    x-marked a.m a.main.now a.ports.now a.trail.now a.used j.result j.ensures c.in_default.is c.if-used-eq0.false c.read_short-short.result _ (c.read_short-short.ensures (length a.main.now) (length a.ports.now)) c.in-X.o c.in-X.left c.in-X.is
+    x_marked a.m a.main.now a.ports.now a.trail.now a.used j.result j.ensures c.in_default.is c.if-used-eq0.false c.read_short-short.result _ (c.read_short-short.ensures (length a.main.now) (length a.ports.now)) c.in-X.o c.in-X.left c.in-X.is
 
 pub returns-in-Y : goal.returns-in-Y
 returns-in-Y c =
     let a = c.args in
     let j = c.judge-first in
-    y-marked a.m a.main.now a.ports.now a.trail.now a.used j.result j.ensures c.in_default.is c.if-used-eq0.false c.read_short-short.result _ (c.read_short-short.ensures (length a.main.now) (length a.ports.now)) c.in-Y.o c.in-Y.left c.in-Y.is
+    y_marked a.m a.main.now a.ports.now a.trail.now a.used j.result j.ensures c.in_default.is c.if-used-eq0.false c.read_short-short.result _ (c.read_short-short.ensures (length a.main.now) (length a.ports.now)) c.in-Y.o c.in-Y.left c.in-Y.is
 
 pub returns-in-Broken : goal.returns-in-Broken
 returns-in-Broken c =
     let a = c.args in
     let j = c.judge-first in
-    short-broken a.m a.main.now a.ports.now a.trail.now a.used j.result j.ensures c.in_default.is c.if-used-eq0.false c.read_short-short.result _ (c.read_short-short.ensures (length a.main.now) (length a.ports.now)) c.in-Broken.is
+    short_broken a.m a.main.now a.ports.now a.trail.now a.used j.result j.ensures c.in_default.is c.if-used-eq0.false c.read_short-short.result _ (c.read_short-short.ensures (length a.main.now) (length a.ports.now)) c.in-Broken.is
 
 pub newest-requires : goal.newest-requires
 newest-requires c =
@@ -73,13 +73,13 @@ pub returns-in_default-newest : goal.returns-in_default-newest
 returns-in_default-newest c =
     let a = c.args in
     let j = c.judge-first in
-    back-broken a.m a.main.now a.ports.now a.trail.now a.used j.result j.ensures c.in_default.is c.if-used-eq0.false c.newest.result c.newest.ensures c.in_default-newest.is
+    back_broken a.m a.main.now a.ports.now a.trail.now a.used j.result j.ensures c.in_default.is c.if-used-eq0.false c.newest.result c.newest.ensures c.in_default-newest.is
 
 pub word_restored-requires : goal.word_restored-requires
 word_restored-requires c =
     let a = c.args in
     let j = c.judge-first in
-    back-refits a.m a.main.now a.ports.now a.trail.now a.used j.result j.ensures c.in_default.is c.if-used-eq0.false c.newest.result c.in-Record.o c.in-Record.left c.newest.ensures c.in-Record.is
+    back_refits a.m a.main.now a.ports.now a.trail.now a.used j.result j.ensures c.in_default.is c.if-used-eq0.false c.newest.result c.in-Record.o c.in-Record.left c.newest.ensures c.in-Record.is
 
 pub returns-in-Longer : goal.returns-in-Longer
 returns-in-Longer c =

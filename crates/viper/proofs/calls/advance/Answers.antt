@@ -9,7 +9,7 @@ use Rattle.machine.specs.declared.Machine.{Machine}
 use Rattle.step.specs.Phases.{held}
 use Rattle.step.specs.Finishing.{came}
 use Rattle.step.specs.declared.finish.Stepped.{Stepped}
-use Rattle.viper.proofs.Stepping.{going_start, leaves_stopped, leaves_budget, leaves-lacking, leaves-without-room, goes-on-after}
+use Rattle.viper.proofs.Stepping.{going_start, leaves_stopped, leaves_budget, leaves_lacking, leaves_without_room, goes_on_after}
 use Rattle.viper.proofs.calls.advance.Goals as goal
 
 -- sources that are kept are those of the same machine
@@ -47,7 +47,7 @@ returns-in-Unfitted c =
     let e : l.stop ≡ false = c.loop-stop-test.true in
     let k = rw e at l.invariant.0 in
     let same : held g l.p l.b l.stop ≡ held l.sources l.p l.b false = rw e (same_held l.sources g l.p l.b false (rw c.in-Unfitted.is at o.ensures.0)) in
-    rw (c.machine_held-in-Unfitted.ensures ∙ same) (leaves-lacking k refl c.if-steps-budget.false (came o.result g) (ram o.new.main o.new.ports) o.new.trail o.ensures.1 (ap (λ (x : Stepped). came x g) c.in-Unfitted.is))
+    rw (c.machine_held-in-Unfitted.ensures ∙ same) (leaves_lacking k refl c.if-steps-budget.false (came o.result g) (ram o.new.main o.new.ports) o.new.trail o.ensures.1 (ap (λ (x : Stepped). came x g) c.in-Unfitted.is))
 
 pub returns-in-Full : goal.returns-in-Full
 returns-in-Full c =
@@ -57,7 +57,7 @@ returns-in-Full c =
     let e : l.stop ≡ false = c.loop-stop-test.true in
     let k = rw e at l.invariant.0 in
     let same : held g l.p l.b l.stop ≡ held l.sources l.p l.b false = rw e (same_held l.sources g l.p l.b false (rw c.in-Full.is at o.ensures.0)) in
-    rw (c.machine_held-in-Full.ensures ∙ same) (leaves-without-room k refl c.if-steps-budget.false (came o.result g) (ram o.new.main o.new.ports) o.new.trail o.ensures.1 (ap (λ (x : Stepped). came x g) c.in-Full.is))
+    rw (c.machine_held-in-Full.ensures ∙ same) (leaves_without_room k refl c.if-steps-budget.false (came o.result g) (ram o.new.main o.new.ports) o.new.trail o.ensures.1 (ap (λ (x : Stepped). came x g) c.in-Full.is))
 
 pub overflow_add-steps : goal.overflow_add-steps
 overflow_add-steps c =
@@ -80,7 +80,7 @@ loop-stop-preserved c =
     let l = c.loop-stop in
     let e : l.stop ≡ false = c.loop-stop-test.true in
     let k = rw e at l.invariant.0 in (
-      goes-on-after k refl c.if-steps-budget.false (came o.result g) (held g v.next v.test v.halt) v.n o.new.main o.new.ports o.new.trail o.ensures.1 (ap (λ (x : Stepped). came x g) v.is),
+      goes_on_after k refl c.if-steps-budget.false (came o.result g) (held g v.next v.test v.halt) v.n o.new.main o.new.ports o.new.trail o.ensures.1 (ap (λ (x : Stepped). came x g) v.is),
       (rw v.is at o.ensures.0) ∙ l.invariant.1,
     )
 

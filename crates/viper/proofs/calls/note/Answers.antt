@@ -5,14 +5,14 @@ use Rattle.machine.specs.Held.{ram}
 use Rattle.trail.proofs.Marks.{Sound, old_values_good}
 use Rattle.trail.proofs.Lengths.{kept_short}
 use Rattle.trail.specs.declared.Word.TheVariants.{Kept}
-use Rattle.viper.proofs.Exits.{noted_p, noted-count, noted-full, noted-done}
+use Rattle.viper.proofs.Exits.{noted_p, noted_count, noted_full, noted_done}
 use Rattle.viper.proofs.calls.note.Goals as goal
 
 pub returns-then-m-ge1048576 : goal.returns-then-m-ge1048576
 returns-then-m-ge1048576 c = λ main ports. rw c.refuse.ensures (noted_p c.args.kind c.args.m c.args.after (ram main ports) c.args.trail.now c.args.used c.if-m-ge1048576.true)
 
 pub returns-then-used-trail : goal.returns-then-used-trail
-returns-then-used-trail c = λ main ports. rw c.refuse-then-used-trail.ensures (noted-count c.args.kind c.args.m c.args.after (ram main ports) c.args.trail.now c.args.used c.if-m-ge1048576.false c.if-used-trail.true)
+returns-then-used-trail c = λ main ports. rw c.refuse-then-used-trail.ensures (noted_count c.args.kind c.args.m c.args.after (ram main ports) c.args.trail.now c.args.used c.if-m-ge1048576.false c.if-used-trail.true)
 
 pub add-requires : goal.add-requires
 add-requires c =
@@ -22,7 +22,7 @@ add-requires c =
     (c.if-used-trail.false, rw c.old_values-o.ensures (old_values_good c.args.kind c.args.after z), rw c.old_values-o.ensures (kept_short c.args.kind c.args.after z))
 
 pub returns-in_default : goal.returns-in_default
-returns-in_default c = λ main ports. rw c.refuse-in_default.ensures (noted-full c.args.kind c.args.m c.args.after (ram main ports) c.args.trail.now c.args.used c.if-m-ge1048576.false c.if-used-trail.false c.old_values-o.result c.add.result c.add.new.trail c.old_values-o.ensures c.add.ensures c.in_default.is)
+returns-in_default c = λ main ports. rw c.refuse-in_default.ensures (noted_full c.args.kind c.args.m c.args.after (ram main ports) c.args.trail.now c.args.used c.if-m-ge1048576.false c.if-used-trail.false c.old_values-o.result c.add.result c.add.new.trail c.old_values-o.ensures c.add.ensures c.in_default.is)
 
 pub returns : goal.returns
-returns c = λ main ports. noted-done c.args.kind c.args.m c.args.after (ram main ports) c.args.trail.now c.args.used c.if-m-ge1048576.false c.if-used-trail.false c.old_values-o.result c.add.result c.add.new.trail c.old_values-o.ensures c.add.ensures c.in-Used.n c.in-Used.is
+returns c = λ main ports. noted_done c.args.kind c.args.m c.args.after (ram main ports) c.args.trail.now c.args.used c.if-m-ge1048576.false c.if-used-trail.false c.old_values-o.result c.add.result c.add.new.trail c.old_values-o.ensures c.add.ensures c.in-Used.n c.in-Used.is

@@ -12,7 +12,7 @@ use Rattle.viper.specs.Operations.{set_word}
 use Rattle.step.specs.Phases as phases
 use Rattle.step.proofs.Stores.{changing_addressed, changing_value, finish_full, finish_done}
 use Rattle.step.proofs.Completing.{written_over}
-use Rattle.viper.proofs.Exits.{passed, refused_first, set-unfitted, set-fitted, set_full, set-done}
+use Rattle.viper.proofs.Exits.{passed, refused_first, set_unfitted, set_fitted, set_full, set_done}
 use borrow.Author.Rules.{rules}
 use Rattle.viper.proofs.calls.set.Goals as goal
 
@@ -24,11 +24,11 @@ returns-in-Refused c =
 pub returns-then-not-is_fitted : goal.returns-then-not-is_fitted
 returns-then-not-is_fitted c =
     rw c.refuse-then-not-is_fitted.ensures
-    (set-unfitted c.args.m c.args.main.now c.args.ports.now c.args.trail.now c.args.used c.args.place c.args.value c.judge-first.result c.judge-first.ensures c.in_default.is c.is_fitted.result c.is_fitted.ensures c.if-not-is_fitted.true)
+    (set_unfitted c.args.m c.args.main.now c.args.ports.now c.args.trail.now c.args.used c.args.place c.args.value c.judge-first.result c.judge-first.ensures c.in_default.is c.is_fitted.result c.is_fitted.ensures c.if-not-is_fitted.true)
 
 pub word_at-old-requires : goal.word_at-old-requires
 word_at-old-requires c =
-    set-fitted c.args.m c.args.main.now c.args.ports.now c.args.trail.now c.args.used c.args.place c.args.value c.judge-first.result c.judge-first.ensures c.in_default.is c.is_fitted.result c.is_fitted.ensures c.if-not-is_fitted.false
+    set_fitted c.args.m c.args.main.now c.args.ports.now c.args.trail.now c.args.used c.args.place c.args.value c.judge-first.result c.judge-first.ensures c.in_default.is c.is_fitted.result c.is_fitted.ensures c.if-not-is_fitted.false
 
 pub old_values-o-requires : goal.old_values-o-requires
 old_values-o-requires c =
@@ -36,7 +36,7 @@ old_values-o-requires c =
     let o = c.word_at-old in
     let w = c.changed_to in
     let hw = w.ensures ∙ written_over stores c.args.place o.result c.args.value o.ensures in
-    rw hw (changing_addressed stores (phases.Word c.args.place c.args.value) (set-fitted c.args.m c.args.main.now c.args.ports.now c.args.trail.now c.args.used c.args.place c.args.value c.judge-first.result c.judge-first.ensures c.in_default.is c.is_fitted.result c.is_fitted.ensures c.if-not-is_fitted.false))
+    rw hw (changing_addressed stores (phases.Word c.args.place c.args.value) (set_fitted c.args.m c.args.main.now c.args.ports.now c.args.trail.now c.args.used c.args.place c.args.value c.judge-first.result c.judge-first.ensures c.in_default.is c.is_fitted.result c.is_fitted.ensures c.if-not-is_fitted.false))
 
 pub add-requires : goal.add-requires
 add-requires c =
@@ -51,7 +51,7 @@ add-requires c =
       a = registers.0;
       x = registers.1;
       y = registers.2;
-      address = rw hw (changing_addressed stores (phases.Word c.args.place c.args.value) (set-fitted c.args.m c.args.main.now c.args.ports.now c.args.trail.now c.args.used c.args.place c.args.value c.judge-first.result c.judge-first.ensures c.in_default.is c.is_fitted.result c.is_fitted.ensures c.if-not-is_fitted.false));
+      address = rw hw (changing_addressed stores (phases.Word c.args.place c.args.value) (set_fitted c.args.m c.args.main.now c.args.ports.now c.args.trail.now c.args.used c.args.place c.args.value c.judge-first.result c.judge-first.ensures c.in_default.is c.is_fitted.result c.is_fitted.ensures c.if-not-is_fitted.false));
       value = rw hw (changing_value c.args.main.now c.args.ports.now (phases.Word c.args.place c.args.value) (λ i. search rules) (λ i. search rules));
     } in
     (l.used_le, rw c.old_values-o.ensures (old_values_good kind.Set c.args.m z), rw c.old_values-o.ensures (same_short kind.Set c.args.m z))
@@ -70,7 +70,7 @@ returns-in_default-add c =
 
 pub put_word-requires : goal.put_word-requires
 put_word-requires c =
-    set-fitted c.args.m c.args.main.now c.args.ports.now c.args.trail.now c.args.used c.args.place c.args.value c.judge-first.result c.judge-first.ensures c.in_default.is c.is_fitted.result c.is_fitted.ensures c.if-not-is_fitted.false
+    set_fitted c.args.m c.args.main.now c.args.ports.now c.args.trail.now c.args.used c.args.place c.args.value c.judge-first.result c.judge-first.ensures c.in_default.is c.is_fitted.result c.is_fitted.ensures c.if-not-is_fitted.false
 
 pub returns : goal.returns
 returns c =
@@ -82,5 +82,5 @@ returns c =
     let n = c.add in
     let k = c.in-Used in
     let u = c.put_word in
-    set-done c.args.m c.args.main.now c.args.ports.now c.args.trail.now c.args.used c.args.place c.args.value c.judge-first.result c.judge-first.ensures c.in_default.is c.is_fitted.result c.is_fitted.ensures c.if-not-is_fitted.false (added.Used k.n) (ram u.new.main u.new.ports) n.new.trail
+    set_done c.args.m c.args.main.now c.args.ports.now c.args.trail.now c.args.used c.args.place c.args.value c.judge-first.result c.judge-first.ensures c.in_default.is c.is_fitted.result c.is_fitted.ensures c.if-not-is_fitted.false (added.Used k.n) (ram u.new.main u.new.ports) n.new.trail
     (finish_done kind.Set c.args.m (record { machine = c.args.m; written = phases.Word c.args.place c.args.value }) stores c.args.trail.now c.args.used w.result v.result n.result n.new.trail hw v.ensures n.ensures k.n (ram u.new.main u.new.ports) k.is u.ensures) k.n refl

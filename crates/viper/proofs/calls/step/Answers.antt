@@ -3,7 +3,7 @@ use lib.ListN.{length}
 use Rattle.viper.specs.Judging.{ran_told}
 use mathlib.Core.Path.{refl}
 use Rattle.viper.specs.Operations as operations
-use Rattle.viper.proofs.Exits.{passed, refused_first, refused_stopped, stepped-once}
+use Rattle.viper.proofs.Exits.{passed, refused_first, refused_stopped, stepped_once}
 use Rattle.viper.proofs.calls.step.Goals as goal
 
 pub returns-in-Refused : goal.returns-in-Refused
@@ -23,5 +23,5 @@ pub returns : goal.returns
 returns c =
     let a = c.advance-a in
     rw c.step_answer.ensures
-    (stepped-once c.args.m c.args.main.now c.args.ports.now c.args.trail.now c.args.used (passed c.args.m.p (length c.args.main.now) (length c.args.ports.now) (length c.args.trail.now) c.args.used c.judge-first.result c.judge-first.ensures c.in_default.is) c.if-m.false
+    (stepped_once c.args.m c.args.main.now c.args.ports.now c.args.trail.now c.args.used (passed c.args.m.p (length c.args.main.now) (length c.args.ports.now) (length c.args.trail.now) c.args.used c.judge-first.result c.judge-first.ensures c.in_default.is) c.if-m.false
     (ran_told a.result a.new.main a.new.ports a.new.trail) a.ensures)
