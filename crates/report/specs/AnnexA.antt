@@ -4,7 +4,6 @@
 -- Assumes nothing.
 use Rattle.std.specs.Prelude.{ℕ, zero, suc, ◌+◌, ◌*◌, ◌/◌, ◌%◌, ◌^◌, Bool, true, false, not, cond, ◌||◌, ◌&&◌, List, [], ◌∷◌, map, eqb, leb, length, get_or, set}
 
-infix 40 ◌==◌
 infixr 30 ◌AND◌
 infixr 30 ◌OR◌
 infixr 30 ◌XOR◌
@@ -14,9 +13,6 @@ T = true
 
 abbrev pub F : Bool
 F = false
-
-abbrev pub ◌==◌ : ℕ → ℕ → Bool
-a == b = eqb a b
 
 abbrev pub NOT : Bool → Bool
 NOT a = not a

@@ -1,8 +1,8 @@
 -- Report 90009, section 3: VIPER itself, function by function, with the report's names, order of arguments and shape.
 -- Lay it beside pages 10 to 20 of the report. Two signs that the scan lost are set by document 01's first paragraph: see LEFT and COMPARE.
 -- Assumes nothing.
-use Rattle.std.specs.Prelude.{ℕ, ◌+◌, Bool}
-use Rattle.report.specs.AnnexA.{T, F, ◌==◌, NOT, ◌OR◌, ◌AND◌, ◌XOR◌, ◌=>◌∣◌, CONS, TL, EL, SEG, «V», WORD1, WORD2, WORD3, WORD4, WORD20, WORD21, WORD32, WORD33, WORD34, VAL1, VAL2, VAL3, VAL4, VAL20, VAL33, BITS20, BITS32, BITS34, NOT33, NOT32, ◌AND32◌, ◌OR32◌, Mem, FETCH21, STORE21}
+use Rattle.std.specs.Prelude.{ℕ, ◌+◌, Bool, ◌==◌}
+use Rattle.report.specs.AnnexA.{T, F, NOT, ◌OR◌, ◌AND◌, ◌XOR◌, ◌=>◌∣◌, CONS, TL, EL, SEG, «V», WORD1, WORD2, WORD3, WORD4, WORD20, WORD21, WORD32, WORD33, WORD34, VAL1, VAL2, VAL3, VAL4, VAL20, VAL33, BITS20, BITS32, BITS34, NOT33, NOT32, ◌AND32◌, ◌OR32◌, Mem, FETCH21, STORE21}
 
 -- word32 # bool # bool: a result with carry and overflow, or with B and abort.
 abbrev pub Triple : Type 0

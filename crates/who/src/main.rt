@@ -1,11 +1,12 @@
 // who, which operation hit this word (document 02, W7): it reads a place and a routine from standard input, runs the routine as bench does, and tells
 // which operation was the newest to change the word there.
 #![tactic(auto)]
+
 use asking::Asked;
 use counter::Loaded;
-use libc::{STDIN_FILENO, STDOUT_FILENO};
 use machine::{Machine, Place};
 use seeking::Sought;
+use std::io;
 use trail::OldValues;
 use viper::Answer;
 
@@ -16,20 +17,20 @@ const BUDGET: u32 = 300;
 const PLACE_LINE: usize = 11;
 
 // The text is read up to one byte more than that line and 8,192 others have: these bytes decide which line is the first bad one.
-fn main() {
+fn main(rt: HostRuntime) -> io::Result<()> {
     let mut text = [0u8; 73740];
-    let read = io::read_full(STDIN_FILENO, &mut text);
+    let read = console::read_full(&mut rt.stdin(), &mut text)?;
     let asked = asking::asked_place(&text[..read]);
     match asked {
-        Asked::Word(place) => load_and_tell(place, &text[..read]),
-        Asked::IllFormed => print_bad(1),
+        Asked::Word(place) => load_and_tell(&rt, place, &text[..read]),
+        Asked::IllFormed => print_bad(&rt, 1),
     }
 }
 
 // The lines after the first are a routine as bench reads it.
-fn load_and_tell(place: Place, text: &[u8]) {
+fn load_and_tell(rt: &impl Print, place: Place, text: &[u8]) -> io::Result<()> {
     if text.len() < PLACE_LINE {
-        return;
+        return Ok(());
     }
     let mut main = [0u32; 8192];
     let loaded = counter::load(&text[PLACE_LINE..], &mut main);
@@ -37,9 +38,9 @@ fn load_and_tell(place: Place, text: &[u8]) {
         Loaded::Words(_) => {
             let mut ports = [0u32; 256];
             let mut trail = [0u8; 4096];
-            run_and_tell(place, &mut main, &mut ports, &mut trail);
+            run_and_tell(rt, place, &mut main, &mut ports, &mut trail)
         }
-        Loaded::BadLine(n) => print_bad(n + 1),
+        Loaded::BadLine(n) => print_bad(rt, n + 1),
     }
 }
 
@@ -54,7 +55,13 @@ fn cleared() -> Machine {
     }
 }
 
-fn run_and_tell(place: Place, main: &mut [u32], ports: &mut [u32], trail: &mut [u8]) {
+fn run_and_tell(
+    rt: &impl Print,
+    place: Place,
+    main: &mut [u32],
+    ports: &mut [u32],
+    trail: &mut [u8],
+) -> io::Result<()> {
     let ran = viper::calls::run(cleared(), main, ports, trail, 0, BUDGET);
     let m = ran.machine;
     let used = ran.used;
@@ -63,11 +70,11 @@ fn run_and_tell(place: Place, main: &mut [u32], ports: &mut [u32], trail: &mut [
         Sought::Found(back, o) => {
             let new = word_now(main, ports, place);
             take_back(m, main, ports, trail, used, back);
-            print_hit(back, o, new, main);
+            print_hit(rt, back, o, new, main)
         }
-        Sought::Never => print_never(),
-        Sought::CountTooLarge => return,
-        Sought::Broken => return,
+        Sought::Never => print_never(rt),
+        Sought::CountTooLarge => Ok(()),
+        Sought::Broken => Ok(()),
     }
 }
 
@@ -111,29 +118,30 @@ fn take_back(
 }
 
 // How many operations back, P, the word's value before and now; then the listing's line of the instruction.
-fn print_hit(back: usize, o: OldValues, new: u32, main: &[u32]) {
+fn print_hit(rt: &impl Print, back: usize, o: OldValues, new: u32, main: &[u32]) -> io::Result<()> {
     let mut line = [0u8; 80];
     let n = asking::hit_line(&mut line, back, o.p, o.value, new);
-    io::write_all(STDOUT_FILENO, &line[..n]);
+    rt.write_all(&line[..n])?;
     let p = o.p as usize;
     if p < main.len() {
-        print_instruction(p, main[p]);
+        return print_instruction(rt, p, main[p]);
     }
+    Ok(())
 }
 
-fn print_instruction(p: usize, w: u32) {
+fn print_instruction(rt: &impl Print, p: usize, w: u32) -> io::Result<()> {
     let line = listing::line_of_word(p, w);
     let bytes = line.bytes;
     let n = line.len;
-    io::write_all(STDOUT_FILENO, &bytes[..n]);
+    rt.write_all(&bytes[..n])
 }
 
-fn print_never() {
-    io::write_all(STDOUT_FILENO, b"never\n");
+fn print_never(rt: &impl Print) -> io::Result<()> {
+    rt.write_all(b"never\n")
 }
 
-fn print_bad(n: usize) {
+fn print_bad(rt: &impl Print, n: usize) -> io::Result<()> {
     let mut line = [0u8; 160];
     let n = counter::bad_line(&mut line, n);
-    io::write_all(STDOUT_FILENO, &line[..n]);
+    rt.write_all(&line[..n])
 }
