@@ -1,10 +1,9 @@
 -- The third demand where the history starts again (document 02, W4): it holds from the newest start on, since what starts it again leaves a valid
 -- machine, stores of the same sizes and an empty trail.
 -- Assumes nothing.
-use Prim.Native.Nat.{ℕ, ◌^◌, ◌<◌, ◌≤◌}
+use Prim.Native.Nat.{ℕ, ◌^◌, ◌≤◌}
 use mathlib.Core.Path.{◌≡◌, refl, sym, subst}
 use mathlib.Core.List.{List}
-use lib.ListN.{length, get_or}
 use Rattle.intel_hex.proofs.Words.{imported_in_range, imported_length}
 use Rattle.intel_hex.proofs.Theorems.{accepted_starts_again}
 use Rattle.viper.specs.Operations.{Bench, Operation}

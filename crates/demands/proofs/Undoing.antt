@@ -10,12 +10,12 @@ use lib.ListN.{length, length-append}
 use borrow.Author.Tests.{not-false}
 use Rattle.report.specs.AnnexA.{Mem}
 use Rattle.report.specs.Section3.{State}
-use Rattle.report.specs.Parts.{Where, fitted, Part, stopped, halts, compares, writes, skips, computes, part, word, after_by, writes_by, reads, written, InRange}
+use Rattle.report.specs.Parts.{Where, Part, stopped, halts, compares, writes, skips, computes, part, word, after_by, writes_by, reads, written, InRange}
 use Rattle.report.proofs.Stores.{either_false, fitted_low, placed_stores}
 use Rattle.report.proofs.Order.{next_by_parts}
 use Rattle.report.proofs.RangeKept.{next_in_range, put_main, put_ports}
 use Rattle.machine.specs.Held.{where_of}
-use Rattle.trail.specs.Records.{record_in, record_bytes}
+use Rattle.trail.specs.Records.{record_in}
 use Rattle.trail.proofs.RecordRestores.{Touched, kept, put, main_kept, ports_kept, Restores, record_restores}
 use Rattle.step.specs.Phases.{lacks, step_unfitted}
 use Rattle.viper.specs.Operations.{Operation, step, reset, force, set_word, operate, next, kind_of, writes_at, record_for, unfitted}

@@ -4,7 +4,7 @@
 use Prim.Native.Nat.{ℕ, zero, suc, ◌+◌, ◌-◌, ◌≤◌}
 use mathlib.Core.Path.{◌≡◌, refl, ap, sym, ◌∙◌, subst}
 use mathlib.Core.Bool.{Bool, true, false, cond}
-use mathlib.Core.Option.{Option, none, some}
+use mathlib.Core.Option.{Option, some}
 use mathlib.Core.List.{List, [], ◌∷◌, ◌++◌, append-nil, append_assoc}
 use native.Mathlib.Omega.{arith}
 use lib.ListN.{length, take, replicate, length-append}
@@ -15,7 +15,6 @@ use Rattle.machine.specs.Held.{where_of}
 use Rattle.machine.specs.declared.Place.{Place}
 use Rattle.trail.specs.declared.OldValues.{OldValues}
 use Rattle.trail.specs.declared.Newest.TheVariants as newest
-use Rattle.trail.proofs.NewestReadsBack.{Fits}
 use Rattle.moving.specs.Rows.{row, GoodRow, records_of}
 use Rattle.moving.proofs.Division as division
 use Rattle.seeking.specs.declared.Sought.{Sought}
@@ -28,7 +27,7 @@ use Rattle.viper.specs.TakingBack.{back_outcome}
 use Rattle.viper.specs.declared.Answer.{Answer}
 use Rattle.demands.specs.Histories.{Valid, Session, through, struck, after}
 use Rattle.demands.specs.Hits.{made_by, changes, NoneChanges, Hit}
-use Rattle.demands.proofs.Undoing.{touched, touched_sizes, undoes}
+use Rattle.demands.proofs.Undoing.{touched}
 use Rattle.demands.proofs.WhoMadeThem.{made, FitRow, made_good, made_fit, trace_row}
 use Rattle.demands.proofs.ThirdDemand.{Fair, through_valid, Kept, kept_session, kept_back, back_answer}
 

@@ -2,7 +2,7 @@
 -- Assumes nothing.
 use Rattle.std.specs.Prelude.{ℕ, ◌+◌, ◌≡◌, Bool, true, false, List, [], ◌∷◌, ◌++◌, length}
 use Rattle.report.specs.Section3.{State}
-use Rattle.report.specs.Parts.{Where, word_at}
+use Rattle.report.specs.Parts.{word_at}
 use Rattle.machine.specs.Held.{where_of}
 use Rattle.machine.specs.declared.Place.{Place}
 use Rattle.trail.specs.declared.OldValues.{OldValues}
