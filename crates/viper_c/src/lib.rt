@@ -2,6 +2,7 @@
 // outcome back; taking back puts the registers back in regs itself. None has a `requires`: what C lends is refused
 // or obeyed as document 01 says.
 #![tactic(auto)]
+
 mod answers;
 mod registers;
 mod restoring;
