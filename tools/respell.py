@@ -99,10 +99,21 @@ def clause_lines(text):
     return out
 
 
+DECLARED = set()
+
+
+def quoted(text, names):
+    """Between backquotes also the names that port.py respelled, which are declared by their new spelling already."""
+    def one(m):
+        return WORD.sub(lambda w: new_name(w.group()) if w.group() in names or (is_own(w.group()) and new_name(w.group()) in DECLARED) else w.group(), m.group())
+
+    return re.sub(r"`[^`\n]*`", one, text)
+
+
 def turn_line(line, names, kept):
     cut = COMMENT.search(line)
     body, rest = (line[: cut.start()], line[cut.start():]) if cut else (line, "")
-    rest = re.sub(r"`[^`\n]*`", lambda m: turn_line(m.group(), names, kept), rest)
+    rest = quoted(rest, names)
     return WORD.sub(lambda m: new_name(m.group()) if m.group() in names and m.group() not in kept else m.group(), body) + rest
 
 
@@ -113,6 +124,8 @@ def main():
             continue  # the names there are the check's own
         text = text_of(path)
         names.update(n for n in declared(text) if is_own(n))
+        if path.endswith(".antt"):
+            DECLARED.update(declared(text))
         names.update(a for _, _, a in uses(text) if a and is_own(a))
         if path.endswith(".antt") and not path.endswith("/Proof.antt"):
             # what else a lemma file or a definition names with a dash, and no library gave it: its variables and its local lemmas
@@ -140,7 +153,7 @@ def main():
         if re.search(r"^file: (?:specs|proofs)/", text, re.M):
             turned[path] = "\n".join(re.sub(r"(?<=[\w)]) \.(?=\w)", ".", turn_line(l, names, ())) if re.match(r"(?:old|new): ", l) else l for l in text.split("\n"))
     for path in ["README.md"] + sorted(os.path.join("docs", n) for n in os.listdir("docs") if n.endswith(".md")):
-        turned[path] = re.sub(r"`[^`\n]*`", lambda m: turn_line(m.group(), names, ()), text_of(path))
+        turned[path] = quoted(text_of(path), names)
     for c in clash:
         print("falls together: " + c)
     if clash:

@@ -1,6 +1,6 @@
 // The trail reader: the lent bytes and a place in them (document 01, "A form for each place").
-// What holds a lent slice is proved by a walk of the code by hand, so the functions over a reader are few and thin: the work is `number_at`'s.
-// An enum cannot hold a reader: what is read answers with the place after it, and `moved` hands the reader back at that place.
+// The functions over a reader are few and thin: the work is `number_at`'s. What is read answers with the place after it, and `moved` hands the reader
+// back at that place.
 ghost use Rattle.std.specs.Prelude.{◌≡◌, ◌^◌, ◌≤◌, length};
 ghost use Rattle.std.proofs.Math.Seq.{slice};
 ghost use Rattle.trail.specs.Numbers.{read_below};
@@ -39,7 +39,7 @@ pub(crate) fn next_number<'a>(r: TrailReader<'a>, end: usize, bound: u64) -> Num
     number_at(r.bytes, r.place, end, bound)
 }
 
-// The same with plain parameters, so that no caller needs a walk: whatever take back reads of a trail, L too, it reads by this.
+// The same with plain parameters: whatever take back reads of a trail, L too, it reads by this.
 pub fn read_number(bytes: &[u8], place: usize, end: usize, bound: u64) -> Number
     requires { (end ≤ length bytes.now) × (bound ≤ 2 ^ 32) }
     ensures { result ≡ number_of end (read_below bound (slice place end bytes.now)) }

@@ -1,4 +1,4 @@
--- The report's NEXT is document 01's step in parts, on words in range: `next-by-parts`, at the end.
+-- The report's NEXT is document 01's step in parts, on words in range: `next_by_parts`, at the end.
 -- NEXT is unfolded once and its functions read in arithmetic; its tests on the fields are document 01's at each of the 1,024 classes; then each part's state is compared.
 -- Assumes nothing.
 use mathlib.Core.Path.{◌≡◌, refl, sym, ap, ◌∙◌}

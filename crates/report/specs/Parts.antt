@@ -1,5 +1,5 @@
 -- Document 01, "The instruction, from the report", in plain arithmetic: the fields of a word, R, the address, M, and the step in its six parts.
--- That the report's NEXT is this step, on words in range, is `next-by-parts` in proofs/Order.antt.
+-- That the report's NEXT is this step, on words in range, is `next_by_parts` in proofs/Order.antt.
 -- Assumes nothing.
 use Rattle.std.specs.Prelude.{ℕ, ◌+◌, ◌-◌, ◌*◌, ◌/◌, ◌%◌, ◌^◌, ◌<◌, Bool, true, false, not, cond, ◌||◌, ◌&&◌, eqb, leb, ltb, length, get_or, set, ℤ, pos, negsuc, ◌+ℤ◌, ◌-ℤ◌}
 use Rattle.std.proofs.Math.Option.{Option, none, some}

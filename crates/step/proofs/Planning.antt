@@ -1,4 +1,4 @@
--- The phases in a row give the report's NEXT, or document 01's refusal 5: `phases-plan`, at the end.
+-- The phases in a row give the report's NEXT, or document 01's refusal 5: `phases_plan`, at the end.
 -- The part that the word comes to says which words are reached and which state follows; each part is compared once.
 -- Assumes nothing.
 use mathlib.Core.Path.{◌≡◌, refl, sym, ap, subst, ◌∙◌}

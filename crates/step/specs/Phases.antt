@@ -1,5 +1,5 @@
 -- What each phase of a step shows: the word fetched, the word decoded, R and M, and what the step changes.
--- That together they are the report's NEXT and document 01's refusal 5 is `phases-plan` in proofs/Planning.antt.
+-- That together they are the report's NEXT and document 01's refusal 5 is `phases_plan` in proofs/Planning.antt.
 -- Assumes nothing.
 use Rattle.std.specs.Prelude.{ℕ, ◌+◌, ◌%◌, ◌^◌, ◌<◌, ◌≡◌, Bool, true, false, not, cond, ◌||◌, List, eqb, ltb, length, get_or}
 use Rattle.std.proofs.Math.Option.{Option, none, some}

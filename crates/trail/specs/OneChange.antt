@@ -1,5 +1,5 @@
 -- The old values of a step, which changes at most one register or one word. Its kind is 1.
--- That they are its `old-values` is in the crate step, proofs/Completing.antt.
+-- That they are its `old_values` is in the crate step, proofs/Completing.antt.
 -- Assumes nothing.
 use Rattle.std.specs.Prelude.{ℕ, Bool, false, cond, List, [], ◌∷◌, ◌++◌, eqb, length, replicate}
 use Rattle.trail.specs.declared.OldValues.{OldValues}

@@ -304,7 +304,7 @@ pub same_bench : {s₁ s₂ : State} {t₁ t₂ : List ℕ} {n₁ n₂ : ℕ} �
     → ◌≡◌ {A = Bench} (record { state = s₁; trail = t₁; used = n₁ }) (record { state = s₂; trail = t₂; used = n₂ })
 same_bench e f g = cc
 
--- what `answered-by` tells
+-- what `answered_by` tells
 not_unfitted : (m : Machine) (x : Added) → stepped_case.Unfitted ≡ answered_by m x → ⊥
 not_unfitted m added_case.Full e = let n : ◌≡◌ {A = ℕ} 0 1 = cc in omega arith
 not_unfitted m (added_case.Used k) e = let n : ◌≡◌ {A = ℕ} 0 1 = cc in omega arith
