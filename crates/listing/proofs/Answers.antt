@@ -23,9 +23,9 @@ module _ {main out : List ℕ} where
   store_too_long h = leaves (rw (lt-ltb (2 ^ 20) (length main) h)) refl
 
   module _ (short : length main ≤ 2 ^ 20) where
-    pub output-too-short : length out < length (listing main) → Lists main out OutputTooShort out
+    pub output_too_short : length out < length (listing main) → Lists main out OutputTooShort out
     unfolding answer
-    output-too-short h = leaves (rw (le-ltb (2 ^ 20) (length main) short, lt-ltb (length out) (length (listing main)) h)) refl
+    output_too_short h = leaves (rw (le-ltb (2 ^ 20) (length main) short, lt-ltb (length out) (length (listing main)) h)) refl
 
     pub listed : {n : ℕ} {after : List ℕ}
         → length (listing main) ≤ length out
