@@ -4,13 +4,13 @@ use Prim.Native.Nat.{ℕ}
 use mathlib.Core.Path.{◌≡◌, refl, ap, sym, ◌∙◌, subst}
 use mathlib.Core.Bool.{true}
 use mathlib.Core.Option.{some}
-use mathlib.Core.List.{List, [], ◌∷◌, ◌++◌, map}
+use mathlib.Core.List.{List, [], ◌∷◌, map}
 use lib.ListN.{length}
 use Rattle.report.specs.Section3.{State}
 use Rattle.trail.specs.declared.OldValues.{OldValues}
 use Rattle.trail.specs.Records.{kind_number, old_values, old_values_of}
 use Rattle.trail.proofs.NewestReadsBack.{Fits}
-use Rattle.viper.specs.Operations.{Bench, Operation, next, kind_of, writes_at, record_for}
+use Rattle.viper.specs.Operations.{Bench, Operation, next, kind_of, writes_at}
 use Rattle.moving.specs.Rows.{row, GoodRow, records_of}
 use Rattle.moving.proofs.Division.{row_reads}
 use Rattle.demands.specs.Histories.{Valid, Session, through, trace}
@@ -26,7 +26,7 @@ made (e ∷ l) s = old_values_of (kind_of e) (through l s) (next e (through l s)
 -- Their bytes are those of these records in a row,
 pub trace_row : (l : List Operation) (s : State) → trace l s ≡ row true (made l s)
 trace_row [] s = refl
-trace_row (e ∷ l) s = ap (λ (r : List ℕ). r ++ record_for e (through l s)) (trace_row l s)
+trace_row (e ∷ l) s = rw (trace_row l s)
 
 -- and their kinds those of the operations.
 abbrev pub kind_in : OldValues → ℕ
