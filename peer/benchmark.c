@@ -1,8 +1,6 @@
 /* The benchmark: the same routines forward with their trail, back again, and by single steps, and
  * the search for a word in such a trail, in our bench (include/viper.h) and in its peer (fast.c),
- * in turns within one run.
- *
- * benchmark [emulated] */
+ * in turns within one run. */
 
 #define _POSIX_C_SOURCE 200809L
 
@@ -434,12 +432,10 @@ static void search_table(void)
     print_searches("together", &all);
 }
 
-int main(int argc, char **argv)
+int main(void)
 {
     ours.board = board_with_room(MOST_WORDS, MOST_WORDS, TRAIL);
     peer.board = board_with_room(MOST_WORDS, MOST_WORDS, TRAIL);
-    if (argc > 1 && strcmp(argv[1], "emulated") == 0)
-        printf("this machine emulates x86-64: a time says nothing, a ratio is a fair proxy\n");
     speed_table();
     growth_table();
     search_table();

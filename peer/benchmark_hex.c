@@ -2,7 +2,7 @@
  * srec_cat on the same image of 1,048,576 words, in one run; and the time that import takes for
  * texts of 2, 4 and 8 MB, which must be linear.
  *
- * benchmark_hex FOLDER [emulated]      the files for srec_cat stand in FOLDER */
+ * benchmark_hex FOLDER      the files for srec_cat stand in FOLDER */
 
 #define _XOPEN_SOURCE 700
 
@@ -142,7 +142,7 @@ static void print_rates(const char *name, double ours, double tool)
            tool / ours);
 }
 
-static void rate_table(bool emulated)
+static void rate_table(void)
 {
     struct times ours = {0, 0}, tool = {0, 0};
     write_file(image_file, image, IMAGE);
@@ -153,8 +153,6 @@ static void rate_table(bool emulated)
     printf("%d words, MB/s of the image, the least time of %d rounds; ours from memory to memory, "
            "srec_cat from file to file\n",
            WORDS, ROUNDS);
-    if (emulated)
-        printf("this machine emulates x86-64 for ours, not for srec_cat: the ratio says nothing\n");
     printf("%-8s %9s %9s %9s\n", "", "ours", "srec_cat", "ratio");
     print_rates("export", ours.exported, tool.exported);
     print_rates("import", ours.imported, tool.imported);
@@ -236,12 +234,12 @@ static void growth_table(void)
 int main(int argc, char **argv)
 {
     if (argc < 2 || strlen(argv[1]) > sizeof image_file - 32)
-        wrong("usage: benchmark_hex FOLDER [emulated]");
+        wrong("usage: benchmark_hex FOLDER");
     snprintf(image_file, sizeof image_file, "%s/benchmark.bin", argv[1]);
     snprintf(text_file, sizeof text_file, "%s/benchmark.hex", argv[1]);
     snprintf(back_file, sizeof back_file, "%s/benchmark.back", argv[1]);
     make_image();
-    rate_table(argc > 2 && strcmp(argv[2], "emulated") == 0);
+    rate_table();
     growth_table();
     return 0;
 }

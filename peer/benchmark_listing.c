@@ -1,8 +1,6 @@
 /* The benchmark of the listing: the same mains listed by ours (viper_list of include/viper.h), by
  * the second listing and by a plain fast one that holds a table of the 4,096 heads (bits 31-20),
- * in turns within one run.
- *
- * benchmark_listing [emulated] */
+ * in turns within one run. */
 
 #define _POSIX_C_SOURCE 200809L
 
@@ -278,15 +276,13 @@ static void growth_table(void)
     }
 }
 
-int main(int argc, char **argv)
+int main(void)
 {
     words = malloc(MOST_WORDS * sizeof *words);
     for (int side = 0; side < SIDES; side++)
         outs[side] = malloc(ROOM);
     make_heads();
     make_pairs();
-    if (argc > 1 && strcmp(argv[1], "emulated") == 0)
-        printf("this machine emulates x86-64: a time says nothing, a ratio is a fair proxy\n");
     rate_table();
     growth_table();
     return 0;

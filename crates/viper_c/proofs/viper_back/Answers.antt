@@ -5,8 +5,6 @@ use Rattle.machine.specs.declared.Machine.{Machine}
 use Rattle.trail.specs.Records.{restored}
 use Rattle.viper.specs.declared.Answer.TheVariants.{Done, Refused}
 use Rattle.viper.specs.TakingBack.{back_outcome}
-use Rattle.viper.specs.Finding.{Restores}
-use Rattle.viper.specs.Told.{bench}
 use Rattle.viper_c.specs.Surface.{regs_of_machine}
 use Rattle.viper_c.proofs.Handing.{call_seen, done_handed, refused_handed}
 use Rattle.viper_c.proofs.PuttingBack.{all_restored}
@@ -23,12 +21,12 @@ returns-in-Refused c =
 
 pub put_back-requires : goal.put_back-requires
 put_back-requires c =
-    let left_over : let a = c.args in Restores (ram c.restore_stores-found.new.main c.restore_stores-found.new.ports) (bench c.machine_of-m.result a.main.now a.ports.now a.trail.now a.used.now) c.in-Record.o c.in-Record.left c.in-Record.marked = rw c.in-Record.is at c.restore_stores-found.ensures in
+    let left_over = rw c.in-Record.is at c.restore_stores-found.ensures in
     left_over.marks
 
 pub returns-in-Record : goal.returns-in-Record
 returns-in-Record c =
-    let left_over : let a = c.args in Restores (ram c.restore_stores-found.new.main c.restore_stores-found.new.ports) (bench c.machine_of-m.result a.main.now a.ports.now a.trail.now a.used.now) c.in-Record.o c.in-Record.left c.in-Record.marked = rw c.in-Record.is at c.restore_stores-found.ensures in
+    let left_over = rw c.in-Record.is at c.restore_stores-found.ensures in
     let a = c.args in
     let m = c.machine_of-m in
     let k = c.restore_stores-found in

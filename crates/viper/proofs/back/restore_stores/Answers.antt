@@ -1,6 +1,5 @@
 -- Refusals 1 to 3, 7 and 8, or the old values of the newest record: a short one, or a longer.
 use Prim.{tt}
-use Prim.Native.Nat.{◌<◌, ◌≤◌}
 use native.Mathlib.Omega.{arith}
 use lib.ListN.{length}
 use Rattle.machine.specs.Held.{ram}
@@ -23,12 +22,8 @@ returns-then-used-eq0 c =
 
 pub read_short-short-requires : goal.read_short-short-requires
 read_short-short-requires c =
-    let reading : let a = c.args in (0 < a.used) × (a.used ≤ length a.trail.now) = let a = c.args in
-    let j = c.judge-first in
-    let l = passed a.m.p (length a.main.now) (length a.ports.now) (length a.trail.now) a.used j.result j.ensures c.in_default.is in
-    let z = c.if-used-eq0.false in
-    (omega arith, l.used_le) in
-    reading
+    let a = c.args in
+    (omega arith, (passed a.m.p (length a.main.now) (length a.ports.now) (length a.trail.now) a.used c.judge-first.result c.judge-first.ensures c.in_default.is).used_le)
 
 pub returns-in-Kept : goal.returns-in-Kept
 returns-in-Kept c =
@@ -62,12 +57,8 @@ returns-in-Broken c =
 
 pub newest-requires : goal.newest-requires
 newest-requires c =
-    let reading : let a = c.args in (0 < a.used) × (a.used ≤ length a.trail.now) = let a = c.args in
-    let j = c.judge-first in
-    let l = passed a.m.p (length a.main.now) (length a.ports.now) (length a.trail.now) a.used j.result j.ensures c.in_default.is in
-    let z = c.if-used-eq0.false in
-    (omega arith, l.used_le) in
-    reading
+    let a = c.args in
+    (omega arith, (passed a.m.p (length a.main.now) (length a.ports.now) (length a.trail.now) a.used c.judge-first.result c.judge-first.ensures c.in_default.is).used_le)
 
 pub returns-in_default-newest : goal.returns-in_default-newest
 returns-in_default-newest c =

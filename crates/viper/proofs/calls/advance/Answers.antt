@@ -1,7 +1,7 @@
 use mathlib.Core.Path.{◌≡◌, refl, sym, ap, ◌∙◌}
 use mathlib.Core.Bool.{Bool, false}
 use mathlib.Core.List.{List}
-use Prim.Native.Nat.{ℕ, ◌<◌, ◌^◌}
+use Prim.Native.Nat.{ℕ}
 use native.Mathlib.Omega.{arith}
 use Rattle.report.specs.Parts.{InRange}
 use Rattle.machine.specs.Held.{ram, state}
@@ -18,12 +18,11 @@ same_held g g' p b stop h = ap (λ (m : Machine). record { a = m.a; x = m.x; y =
 
 pub loop-stop-init : goal.loop-stop-init
 loop-stop-init c =
-    let registers : (c.args.m.a < 2 ^ 32) × (c.args.m.x < 2 ^ 32) × (c.args.m.y < 2 ^ 32) = (omega arith, omega arith, omega arith) in
     let g : InRange (state c.args.m (ram c.args.main.now c.args.ports.now)) = record {
       p_lt = c.requires.p_lt;
-      a_lt = registers.0;
-      x_lt = registers.1;
-      y_lt = registers.2;
+      a_lt = omega arith;
+      x_lt = omega arith;
+      y_lt = omega arith;
       main_lt = λ k. omega (arith, c.type_inv.main k);
       ports_lt = λ k. omega (arith, c.type_inv.ports k);
     } in
@@ -60,17 +59,10 @@ returns-in-Full c =
     rw (c.machine_held-in-Full.ensures ∙ same) (leaves_without_room k refl c.if-steps-budget.false (came o.result g) (ram o.new.main o.new.ports) o.new.trail o.ensures.1 (ap (λ (x : Stepped). came x g) c.in-Full.is))
 
 pub overflow_add-steps : goal.overflow_add-steps
-overflow_add-steps c =
-    let few = c.loop-stop.invariant.0.few in
-    let more = c.if-steps-budget.false in
-    let fits = c.ranges.budget.fits in
-    omega arith
+overflow_add-steps c = omega (arith, c.loop-stop.invariant.0.few, c.if-steps-budget.false)
 
 pub loop-stop-smaller : goal.loop-stop-smaller
-loop-stop-smaller c =
-    let few = c.loop-stop.invariant.0.few in
-    let more = c.if-steps-budget.false in
-    omega arith
+loop-stop-smaller c = omega (arith, c.loop-stop.invariant.0.few, c.if-steps-budget.false)
 
 pub loop-stop-preserved : goal.loop-stop-preserved
 loop-stop-preserved c =

@@ -1,5 +1,4 @@
 -- Refusals 1, 3 and 6, or the record in the trail.
-use Prim.Native.Nat.{◌<◌, ◌^◌}
 use native.Mathlib.Omega.{arith}
 use Rattle.machine.specs.Held.{ram}
 use Rattle.trail.proofs.Marks.{Sound, old_values_good}
@@ -16,9 +15,7 @@ returns-then-used-trail c = λ main ports. rw c.refuse-then-used-trail.ensures (
 
 pub add-requires : goal.add-requires
 add-requires c =
-    let registers : (c.args.m.a < 2 ^ 32) × (c.args.m.x < 2 ^ 32) × (c.args.m.y < 2 ^ 32) = (omega arith, omega arith, omega arith) in
-    let r = registers in
-    let z : Sound c.args.m Kept = record { p = c.if-m-ge1048576.false; a = r.0; x = r.1; y = r.2; address = tt; value = omega arith } in
+    let z : Sound c.args.m Kept = record { p = c.if-m-ge1048576.false; a = omega arith; x = omega arith; y = omega arith; address = tt; value = omega arith } in
     (c.if-used-trail.false, rw c.old_values-o.ensures (old_values_good c.args.kind c.args.after z), rw c.old_values-o.ensures (kept_short c.args.kind c.args.after z))
 
 pub returns-in_default : goal.returns-in_default

@@ -1,6 +1,5 @@
 -- Refusals 1 to 3 and 5, or the word written, with its record on the trail.
 use mathlib.Core.Path.{refl, ◌∙◌}
-use Prim.Native.Nat.{◌<◌, ◌^◌}
 use native.Mathlib.Omega.{arith}
 use lib.ListN.{length}
 use Rattle.machine.specs.Held.{ram}
@@ -40,7 +39,6 @@ old_values-o-requires c =
 
 pub add-requires : goal.add-requires
 add-requires c =
-    let registers : (c.args.m.a < 2 ^ 32) × (c.args.m.x < 2 ^ 32) × (c.args.m.y < 2 ^ 32) = (omega arith, omega arith, omega arith) in
     let stores = ram c.args.main.now c.args.ports.now in
     let o = c.word_at-old in
     let w = c.changed_to in
@@ -48,9 +46,9 @@ add-requires c =
     let l = passed c.args.m.p (length c.args.main.now) (length c.args.ports.now) (length c.args.trail.now) c.args.used c.judge-first.result c.judge-first.ensures c.in_default.is in
     let z : Sound c.args.m w.result = record {
       p = l.p_lt;
-      a = registers.0;
-      x = registers.1;
-      y = registers.2;
+      a = omega arith;
+      x = omega arith;
+      y = omega arith;
       address = rw hw (changing_addressed stores (phases.Word c.args.place c.args.value) (set_fitted c.args.m c.args.main.now c.args.ports.now c.args.trail.now c.args.used c.args.place c.args.value c.judge-first.result c.judge-first.ensures c.in_default.is c.is_fitted.result c.is_fitted.ensures c.if-not-is_fitted.false));
       value = rw hw (changing_value c.args.main.now c.args.ports.now (phases.Word c.args.place c.args.value) (λ i. search rules) (λ i. search rules));
     } in

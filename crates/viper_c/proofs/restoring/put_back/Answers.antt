@@ -2,6 +2,7 @@
 use Prim.Native.Nat.{ℕ, ◌%◌}
 use mathlib.Core.Path.{◌≡◌, ap, ◌∙◌}
 use mathlib.Core.List.{List}
+use mathlib.Core.Bool.{Bool}
 use native.Mathlib.Omega.{arith}
 use lib.ListN.{length, set}
 use Rattle.trail.specs.Records.{marked}
@@ -9,26 +10,23 @@ use Rattle.viper_c.specs.Restoring.{put_if}
 use Rattle.viper_c.proofs.PuttingBack.{put_length, known, nothing_put, a_put, x_put, y_put}
 use Rattle.viper_c.proofs.restoring.put_back.Goals as goal
 
+-- A register put, or not, leaves the six words six.
+still_six : (t : Bool) (i v : ℕ) (r : List ℕ) {s : List ℕ} → s ≡ put_if t i v r → length r ≡ 6 → length s ≡ 6
+still_six t i v r e six = ap length e ∙ put_length t i v r six
+
 pub put_if-requires : goal.put_if-requires
-put_if-requires c =
-    let after_flags : length c.put_flags.new.regs ≡ 6 = ap length c.put_flags.ensures in
-    (omega arith, after_flags)
+put_if-requires c = (omega arith, ap length c.put_flags.ensures)
 
 pub put_if-requires-in-Any : goal.put_if-requires-in-Any
 put_if-requires-in-Any c =
-    let after_flags : length c.put_flags.new.regs ≡ 6 = ap length c.put_flags.ensures in
-    let after_a : length c.put_if.new.regs ≡ 6 = let o = c.args.o in
-    ap length c.put_if.ensures ∙ put_length (marked 1 o.marks) 0 o.a c.put_flags.new.regs (after_flags) in
-    (omega arith, after_a)
+    let o = c.args.o in
+    (omega arith, still_six (marked 1 o.marks) 0 o.a c.put_flags.new.regs c.put_if.ensures (ap length c.put_flags.ensures))
 
 pub put_if-requires-in-Any-2 : goal.put_if-requires-in-Any-2
 put_if-requires-in-Any-2 c =
-    let after_flags : length c.put_flags.new.regs ≡ 6 = ap length c.put_flags.ensures in
-    let after_a : length c.put_if.new.regs ≡ 6 = let o = c.args.o in
-    ap length c.put_if.ensures ∙ put_length (marked 1 o.marks) 0 o.a c.put_flags.new.regs (after_flags) in
-    let after_x : length c.put_if-in-Any.new.regs ≡ 6 = let o = c.args.o in
-    ap length c.put_if-in-Any.ensures ∙ put_length (marked 2 o.marks) 1 o.x c.put_if.new.regs (after_a) in
-    (omega arith, after_x)
+    let o = c.args.o in
+    let after_a = still_six (marked 1 o.marks) 0 o.a c.put_flags.new.regs c.put_if.ensures (ap length c.put_flags.ensures) in
+    (omega arith, still_six (marked 2 o.marks) 1 o.x c.put_if.new.regs c.put_if-in-Any.ensures after_a)
 
 pub returns-in-Nothing : goal.returns-in-Nothing
 returns-in-Nothing c =
