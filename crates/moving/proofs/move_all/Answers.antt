@@ -5,20 +5,16 @@ use Rattle.moving.proofs.move_all.Goals as goal
 
 pub returns-in_default : goal.returns-in_default
 returns-in_default c =
-    let a = c.args in
-    broken a.new a.s.now a.out.now c.count_records.ensures c.in_default.is
+    broken c.args.new c.args.s.now c.args.out.now c.count_records.ensures c.in_default.is
 
 pub judge_room-requires : goal.judge_room-requires
 judge_room-requires c =
-    let a = c.args in
-    few a.new a.s.now a.out.now c.count_records.ensures c.in-Records.is
+    few c.args.new c.args.s.now c.args.out.now c.count_records.ensures c.in-Records.is
 
 pub returns-in_default-judge_room : goal.returns-in_default-judge_room
 returns-in_default-judge_room c =
-    let a = c.args in
-    short a.new a.s.now a.out.now c.count_records.ensures c.in-Records.is c.judge_room.ensures c.in_default-judge_room.is
+    short c.args.new c.args.s.now c.args.out.now c.count_records.ensures c.in-Records.is c.judge_room.ensures c.in_default-judge_room.is
 
 pub write-requires : goal.write-requires
 write-requires c =
-    let a = c.args in
-    moves a.new a.s.now a.out.now c.count_records.ensures c.in-Records.is c.judge_room.ensures c.in-Bytes.is
+    moves c.args.new c.args.s.now c.args.out.now c.count_records.ensures c.in-Records.is c.judge_room.ensures c.in-Bytes.is

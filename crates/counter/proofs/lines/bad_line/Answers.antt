@@ -7,19 +7,10 @@ use Rattle.text.proofs.Placing.{put_then}
 use Rattle.counter.proofs.lines.bad_line.Goals as goal
 
 pub put_decimal-next-requires : goal.put_decimal-next-requires
-put_decimal-next-requires c =
-    omega (arith, twenty_digits c.args.n (omega (arith, c.ranges.n)), c.put_text-next.ensures.next_is, c.put_text-next.auto.out)
+put_decimal-next-requires c = omega (arith, twenty_digits)
 
 pub put_text-requires : goal.put_text-requires
-put_text-requires c =
-    omega (
-      arith,
-      twenty_digits c.args.n (omega (arith, c.ranges.n)),
-      c.put_text-next.ensures.next_is,
-      c.put_text-next.auto.out,
-      c.put_decimal-next.ensures.next_is,
-      c.put_decimal-next.auto.out,
-    )
+put_text-requires c = omega (arith, twenty_digits)
 
 pub returns : goal.returns
 unfolding bad_line

@@ -1,14 +1,14 @@
 use Prim.Native.Nat.{ℕ, ◌+◌, ◌-◌, ◌≤◌, ◌<◌}
-use mathlib.Core.Path.{◌≡◌, refl, sym, ◌∙◌}
+use mathlib.Core.Path.{◌≡◌, sym, ◌∙◌}
 use mathlib.Core.List.{List}
 use native.Mathlib.Omega.{arith}
 use native.Mathlib.Nat.{add-zero}
 use lib.ListN.{length, get_or, drop, length-drop, length-set}
-use lib.Seq.{drop-drop, take_all, get_or-drop}
+use lib.Seq.{drop-drop, get_or-drop}
 use Rattle.counter.specs.Routine.{first_line, words, routine_of, answer}
 use Rattle.counter.specs.declared.routine.Line.TheVariants.{Word}
 use Rattle.counter.specs.declared.routine.Loaded.TheVariants.{Words}
-use Rattle.counter.proofs.Reading.{not_ill_formed, same_word, nine_bytes, words_in, good_text, good_main, next_word, first_word, words_fit}
+use Rattle.counter.proofs.Reading.{not_ill_formed, same_word, nine_bytes, words_in, good_text, next_word, first_word, words_fit}
 use Rattle.counter.proofs.routine.store.Goals as goal
 
 -- There are as many words as lines, and main has room for them.
@@ -38,63 +38,27 @@ turn room text ws at done more e =
       rest = simp (k, drop-drop) at f.1;
     }
 
-pub loop-done-init : goal.loop-done-init
-loop-done-init c =
-    let a = c.args in
-    let z : length a.main.now - 0 ≡ length a.main.now = omega arith in
-    (refl, omega arith, omega arith, refl, refl, rw z (good_text _ a.count c.requires).0)
-
-pub shape_of-main-in_default : goal.shape_of-main-in_default
-shape_of-main-in_default c = c.loop-done.invariant.3
-
 pub returns-in_default : goal.returns-in_default
 returns-in_default c =
+    let l = c.loop-done in
     let n = counted (length c.args.main.now) c.args.count c.args.text.now c.requires in
-    let t = turn (length c.args.main.now) c.args.text.now _ c.loop-done.at c.loop-done.done (omega arith) c.loop-done.invariant.5 in
+    let t = turn (length c.args.main.now) c.args.text.now _ l.at l.done (omega arith) l.invariant.5 in
     not_ill_formed t.line (sym c.line_at.ensures ∙ c.in_default.is)
 
-pub offset_bounds-main-done : goal.offset_bounds-main-done
-offset_bounds-main-done c =
-    let n = counted (length c.args.main.now) c.args.count c.args.text.now c.requires in
-    omega (arith, n, c.well_formed.1.0)
-
 pub bounds-main-done : goal.bounds-main-done
-bounds-main-done c =
-    let n = counted (length c.args.main.now) c.args.count c.args.text.now c.requires in
-    omega (arith, n)
-
-pub overflow_add-at : goal.overflow_add-at
-overflow_add-at c =
-    let n = counted (length c.args.main.now) c.args.count c.args.text.now c.requires in
-    let t = turn (length c.args.main.now) c.args.text.now _ c.loop-done.at c.loop-done.done (omega arith) c.loop-done.invariant.5 in
-    omega (arith, t.whole)
+bounds-main-done c = omega (arith, counted (length c.args.main.now) c.args.count c.args.text.now c.requires)
 
 pub loop-done-preserved : goal.loop-done-preserved
 loop-done-preserved c =
     let main = c.args.main.now in
-    let ws = words_in (routine_of (length main) c.args.text.now) in
     let l = c.loop-done in
     let n = counted (length main) c.args.count c.args.text.now c.requires in
-    let t = turn (length main) c.args.text.now ws l.at l.done (omega arith) l.invariant.5 in
+    let t = turn (length main) c.args.text.now _ l.at l.done (omega arith) l.invariant.5 in
     let w = same_word (sym c.line_at.ensures ∙ c.in-Word.is) t.line in (
       omega arith,
       t.whole,
       omega arith,
       simp length-set l.invariant.3,
-      rw (l.invariant.4, w) (next_word ws main l.done (omega arith) (omega arith)),
+      rw (l.invariant.4, w) (next_word (words_in (routine_of (length main) c.args.text.now)) main l.done (omega arith) (omega arith)),
       t.rest,
     )
-
-pub shape_of-main : goal.shape_of-main
-shape_of-main c = c.loop-done.invariant.3
-
-pub returns : goal.returns
-returns c =
-    let main = c.args.main.now in
-    let routine = routine_of (length main) c.args.text.now in
-    let n = counted (length main) c.args.count c.args.text.now c.requires in
-    let l = c.loop-done in
-    let e : l.done ≡ c.args.count = omega arith in
-    l.invariant.4
-    ∙ rw (e, take_all c.args.count (words_in routine) (omega arith))
-    (sym (good_main routine c.args.count main c.requires))

@@ -7,19 +7,13 @@ use Rattle.text.proofs.Placing.{put_then}
 use Rattle.intel_hex.proofs.exporting.put_all.Goals as goal
 
 pub put_upper-next-requires : goal.put_upper-next-requires
-put_upper-next-requires c =
-    (omega (arith, c.requires.0, whole_length c.args.main.now), omega arith)
+put_upper-next-requires c = (omega (arith, whole_length), omega arith)
 
 pub put_rows-next-requires : goal.put_rows-next-requires
-put_rows-next-requires c =
-    let u = c.put_upper-next in
-    (omega (arith, c.requires.0, whole_length c.args.main.now, upper_length 0, u.ensures.next_is, u.auto.out), c.requires.1)
+put_rows-next-requires c = (omega (arith, whole_length, upper_length), c.requires.1)
 
 pub put_end-requires : goal.put_end-requires
-put_end-requires c =
-    let u = c.put_upper-next in
-    let r = c.put_rows-next in
-    omega (arith, c.requires.0, whole_length c.args.main.now, upper_length 0, u.ensures.next_is, u.auto.out, r.ensures.next_is, r.auto.out)
+put_end-requires c = omega (arith, whole_length, upper_length)
 
 pub returns : goal.returns
 unfolding exported

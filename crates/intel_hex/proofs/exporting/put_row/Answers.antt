@@ -8,10 +8,6 @@ use Rattle.intel_hex.proofs.Lengths.{count_small, count_left, row_length, row_wo
 use Rattle.text.proofs.Placing.{put_then}
 use Rattle.intel_hex.proofs.exporting.put_row.Goals as goal
 
-pub put_upper_before-next-requires : goal.put_upper_before-next-requires
-put_upper_before-next-requires c =
-    (omega (arith, c.requires.0, row_length c.args.main.now c.args.i), c.requires.2)
-
 pub put_data-requires : goal.put_data-requires
 put_data-requires c =
     let main = c.args.main.now in

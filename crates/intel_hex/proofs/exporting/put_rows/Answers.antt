@@ -1,5 +1,5 @@
 use Prim.Native.Nat.{◌+◌, ◌/◌, ◌≤◌}
-use mathlib.Core.Path.{◌≡◌, refl}
+use mathlib.Core.Path.{refl}
 use native.Mathlib.Omega.{arith}
 use lib.ListN.{length}
 use Rattle.intel_hex.specs.Exported.{rows}
@@ -30,8 +30,3 @@ loop-i-preserved c =
       rw (one_row_more l.i c.args.main.now)
           (put_then room l.invariant.2 c.put_row-next.ensures),
     )
-
-pub returns : goal.returns
-returns c =
-    let e : c.loop-i.i ≡ (length c.args.main.now + 3) / 4 = omega arith in
-    rw e at c.loop-i.invariant.2

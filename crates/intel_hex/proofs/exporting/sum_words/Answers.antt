@@ -1,11 +1,6 @@
-use mathlib.Core.Path.{◌≡◌}
 use native.Mathlib.Omega.{arith}
 use Rattle.intel_hex.proofs.Lengths.{one_sum_more}
 use Rattle.intel_hex.proofs.exporting.sum_words.Goals as goal
-
-pub bounds-main-first : goal.bounds-main-first
-bounds-main-first c =
-    omega (arith, c.requires.1)
 
 pub loop-i-preserved : goal.loop-i-preserved
 loop-i-preserved c =
@@ -13,8 +8,3 @@ loop-i-preserved c =
     let w = c.word_sum-total.ensures in
     let t = one_sum_more c.args.main.now c.args.first l.i (omega (arith, c.requires.1)) in
     (omega arith, omega (arith, w.1), rw t (omega (arith, w.0, l.invariant.2)))
-
-pub returns : goal.returns
-returns c =
-    let e : c.loop-i.i ≡ c.args.count = omega arith in
-    (rw e at c.loop-i.invariant.2, omega arith)

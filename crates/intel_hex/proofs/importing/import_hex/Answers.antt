@@ -1,6 +1,5 @@
 -- Each way out is a case of the answer; `store` writes the words of a text that `judge` found good.
 -- Assumes nothing.
-use mathlib.Core.Path.{sym, ◌∙◌}
 use native.Mathlib.Omega.{arith}
 use Rattle.intel_hex.proofs.Exits.{import_too_long, import_bad, import_good}
 use Rattle.intel_hex.proofs.importing.import_hex.Goals as goal
@@ -12,10 +11,6 @@ returns-then-main-gt-MOST c =
 pub returns-in-BadLine : goal.returns-in-BadLine
 returns-in-BadLine c =
     import_bad c.args.text.now c.args.used (omega arith) c.judge-judged.ensures c.in-BadLine.is
-
-pub store-requires : goal.store-requires
-store-requires c =
-    sym c.judge-judged.ensures ∙ c.in_default.is
 
 pub returns : goal.returns
 returns c =

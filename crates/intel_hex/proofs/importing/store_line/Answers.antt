@@ -5,10 +5,6 @@ use lib.ListN.{length}
 use Rattle.intel_hex.proofs.Texts.{words_fit_in, data_bytes_in, named_there}
 use Rattle.intel_hex.proofs.importing.store_line.Goals as goal
 
-pub overflow_add-base : goal.overflow_add-base
-overflow_add-base c =
-    omega (arith, words_fit_in c.in-Data.is (length c.args.main.now) c.args.base c.if-words-eq0.false c.requires.2)
-
 pub store_words-requires : goal.store_words-requires
 store_words-requires c = (
   omega (arith, words_fit_in c.in-Data.is (length c.args.main.now) c.args.base c.if-words-eq0.false c.requires.2),

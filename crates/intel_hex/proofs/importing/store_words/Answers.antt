@@ -1,34 +1,15 @@
 use Prim.Native.Nat.{suc, ◌+◌, ◌-◌}
-use mathlib.Core.Path.{◌≡◌, refl, sym, ◌∙◌}
+use mathlib.Core.Path.{◌≡◌, ◌∙◌}
 use native.Mathlib.Omega.{arith}
-use native.Mathlib.Nat.{add-zero}
 use lib.ListN.{length-set}
 use Rattle.intel_hex.proofs.Texts.{one_word_in, bytes_of_word, bytes_of_rest, word_within}
 use Rattle.intel_hex.proofs.importing.store_words.Goals as goal
-
-pub loop-i-init : goal.loop-i-init
-loop-i-init c =
-    let a = c.args in
-    let z : a.count - 0 ≡ a.count = omega arith in
-    (omega arith, refl, rw z c.requires.1, rw (z, add-zero))
 
 pub word_at-requires : goal.word_at-requires
 word_at-requires c =
     let a = c.args in
     let l = c.loop-i in
     bytes_of_word a.text.now l.next (a.count - l.i) (omega arith) l.invariant.2
-
-pub overflow_add-main : goal.overflow_add-main
-overflow_add-main c =
-    omega (arith, c.requires.0, c.loop-i.invariant.1)
-
-pub offset_bounds-main-place : goal.offset_bounds-main-place
-offset_bounds-main-place c =
-    omega (arith, c.requires.0, c.loop-i.invariant.1, c.well_formed.0)
-
-pub bounds-main-place : goal.bounds-main-place
-bounds-main-place c =
-    omega (arith, c.requires.0, c.loop-i.invariant.1)
 
 pub overflow_add-next : goal.overflow_add-next
 overflow_add-next c =
@@ -48,12 +29,3 @@ loop-i-preserved c =
       bytes_of_rest a.text.now l.next j (rw k at l.invariant.2),
       l.invariant.3 ∙ rw (k, one_word_in a.text.now l.next j (a.place + l.i) l.main, p, c.word_at.ensures),
     )
-
-pub shape_of-main : goal.shape_of-main
-shape_of-main c =
-    c.loop-i.invariant.1
-
-pub returns : goal.returns
-returns c =
-    let z : c.args.count - c.loop-i.i ≡ 0 = omega arith in
-    sym (rw z at c.loop-i.invariant.3)

@@ -1,19 +1,12 @@
 use Prim.Native.Nat.{suc, ◌+◌, ◌-◌}
 use mathlib.Core.Path.{◌≡◌, sym, ◌∙◌}
 use native.Mathlib.Omega.{arith}
-use native.Mathlib.Nat.{zero-add}
 use lib.ListN.{drop}
 use lib.Seq.{drop-drop}
 use Rattle.intel_hex.specs.Layout.{sum}
 use Rattle.intel_hex.specs.Lines.{bytes}
 use Rattle.intel_hex.proofs.Bytes.{none_here, one_here, byte_within, not_summed, summed_is}
 use Rattle.intel_hex.proofs.lines.sum_at.Goals as goal
-
-pub loop-i-init : goal.loop-i-init
-loop-i-init c =
-    let a = c.args in
-    let z : a.count - 0 ≡ a.count = omega arith in
-    (omega arith, omega arith, rw z, rw z (sym (zero-add (sum (bytes a.count (drop a.at a.text.now))))))
 
 pub returns-then-value-ge256 : goal.returns-then-value-ge256
 returns-then-value-ge256 c =

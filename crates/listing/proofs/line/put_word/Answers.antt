@@ -6,13 +6,10 @@ use Rattle.listing.proofs.Lengths.{word_put, word_length}
 use Rattle.listing.proofs.line.put_word.Goals as goal
 
 pub put_text-digits-requires : goal.put_text-digits-requires
-put_text-digits-requires c =
-    omega (arith, c.requires, word_length c.args.w)
+put_text-digits-requires c = omega (arith, word_length)
 
 pub put_hex-requires : goal.put_hex-requires
-put_hex-requires c =
-    omega (arith, c.requires, word_length c.args.w, c.put_text-digits.ensures.next_is, c.put_text-digits.auto.out)
+put_hex-requires c = omega (arith, word_length)
 
 pub returns : goal.returns
-returns c =
-    rw (word_put c.args.w) (put_then (omega (arith, c.requires)) c.put_text-digits.ensures c.put_hex.ensures)
+returns c = rw (word_put c.args.w) (put_then (omega arith) c.put_text-digits.ensures c.put_hex.ensures)

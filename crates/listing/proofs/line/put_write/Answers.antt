@@ -1,30 +1,22 @@
 -- The fields of the definition, one after the other; what is still to come has room after each.
 -- Assumes nothing.
-use mathlib.Core.List.{[], ◌∷◌}
 use native.Mathlib.Omega.{arith}
-use lib.ListN.{length}
-use Rattle.language.specs.Names.{destination_name, register_name}
-use Rattle.language.specs.Line.{operand}
-use Rattle.listing.proofs.Spacing.{field_then, field_last, name_put, Room, room_name, room_field, room_then}
+use Rattle.listing.proofs.Spacing.{field_then, field_last, name_put, name_length, spaced_length}
 use Rattle.listing.proofs.line.put_write.Goals as goal
 
 pub put_name-next-requires : goal.put_name-next-requires
-put_name-next-requires c =
-    let at_start : Room c.args.at (destination_name c.args.f.dsf ∷ register_name c.args.f.rsf ∷ operand c.args.f.msf c.args.f.addr ∷ []) (length c.args.out.now) = record { fits = c.requires } in
-    room_name c.destination.ensures at_start
+put_name-next-requires c = (c.destination.ensures.within, omega (arith, spaced_length, name_length c.destination.ensures))
 
 pub put_name-next-requires-2 : goal.put_name-next-requires-2
 put_name-next-requires-2 c =
-    let at_start : Room c.args.at (destination_name c.args.f.dsf ∷ register_name c.args.f.rsf ∷ operand c.args.f.msf c.args.f.addr ∷ []) (length c.args.out.now) = record { fits = c.requires } in
-    let after_destination : Room c.put_name-next.result (register_name c.args.f.rsf ∷ operand c.args.f.msf c.args.f.addr ∷ []) (length c.put_name-next.new.out) = room_then (name_put c.destination.ensures c.put_name-next.ensures) c.put_name-next.auto.out (at_start) in
-    room_name c.register.ensures after_destination
+    let d = name_put c.destination.ensures c.put_name-next.ensures in
+    (c.register.ensures.within, omega (arith, spaced_length, name_length c.register.ensures, d.next_is))
 
 pub put_operand-requires : goal.put_operand-requires
 put_operand-requires c =
-    let at_start : Room c.args.at (destination_name c.args.f.dsf ∷ register_name c.args.f.rsf ∷ operand c.args.f.msf c.args.f.addr ∷ []) (length c.args.out.now) = record { fits = c.requires } in
-    let after_destination : Room c.put_name-next.result (register_name c.args.f.rsf ∷ operand c.args.f.msf c.args.f.addr ∷ []) (length c.put_name-next.new.out) = room_then (name_put c.destination.ensures c.put_name-next.ensures) c.put_name-next.auto.out (at_start) in
-    let after_register : Room c.put_name-next-2.result (operand c.args.f.msf c.args.f.addr ∷ []) (length c.put_name-next-2.new.out) = room_then (name_put c.register.ensures c.put_name-next-2.ensures) c.put_name-next-2.auto.out (after_destination) in
-    room_field after_register
+    let d = name_put c.destination.ensures c.put_name-next.ensures in
+    let r = name_put c.register.ensures c.put_name-next-2.ensures in
+    omega (arith, spaced_length, d.next_is, r.next_is)
 
 pub returns : goal.returns
 returns c =

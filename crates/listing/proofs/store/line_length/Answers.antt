@@ -6,6 +6,3 @@ use Rattle.listing.proofs.store.line_length.Goals as goal
 
 pub put_line-requires : goal.put_line-requires
 put_line-requires c = (c.requires, omega (arith, (line_bounds 0 c.args.w).1))
-
-pub returns : goal.returns
-returns c = omega (arith, c.put_line.ensures.next_is)

@@ -1,7 +1,6 @@
-use mathlib.Core.Path.{refl, ap, ◌∙◌}
+use mathlib.Core.Path.{refl, ap}
 use native.Mathlib.Omega.{arith}
 use lib.ListN.{length, get_or, take, length-append}
-use lib.Seq.{take_all}
 use Rattle.language.specs.Line.{line}
 use Rattle.listing.specs.Listing.{lines, listing}
 use Rattle.listing.proofs.Lengths.{line_bounds, any_address}
@@ -12,12 +11,8 @@ pub loop-i-init : goal.loop-i-init
 unfolding lines
 loop-i-init c = (omega arith, refl, omega arith)
 
-pub line_length-total-requires : goal.line_length-total-requires
-line_length-total-requires c = c.requires.0
-
 pub overflow_add-total : goal.overflow_add-total
-overflow_add-total c =
-    omega (arith, c.requires.1, c.loop-i.invariant.2, c.line_length-total.ensures, (line_bounds 0 (get_or c.args.main.now c.loop-i.i 0)).1)
+overflow_add-total c = omega (arith, (line_bounds 0 (get_or c.args.main.now c.loop-i.i 0)).1)
 
 pub loop-i-preserved : goal.loop-i-preserved
 loop-i-preserved c =
@@ -35,9 +30,3 @@ loop-i-preserved c =
       ),
       omega (arith, l.invariant.2, c.line_length-total.ensures, (line_bounds 0 w).1),
     )
-
-pub returns : goal.returns
-returns c =
-    let main = c.args.main.now in
-    let l = c.loop-i in
-    l.invariant.1 ∙ ap (λ ws. length (listing ws)) (take_all l.i main (omega arith))

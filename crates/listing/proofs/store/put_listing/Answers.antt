@@ -2,11 +2,10 @@ use Prim.Native.Nat.{◌+◌}
 use mathlib.Core.Path.{refl, ap, ◌∙◌}
 use native.Mathlib.Omega.{arith}
 use lib.ListN.{length, get_or, take, length-append}
-use lib.Seq.{take_all}
 use Rattle.text.proofs.Placing.{put_nothing, put_then}
 use Rattle.language.specs.Line.{line}
 use Rattle.listing.specs.Listing.{lines, listing}
-use Rattle.listing.proofs.Lines.{next_line, first_lines, whole}
+use Rattle.listing.proofs.Lines.{next_line, first_lines}
 use Rattle.listing.proofs.store.put_listing.Goals as goal
 
 pub loop-i-init : goal.loop-i-init
@@ -36,9 +35,3 @@ loop-i-preserved c =
       c.put_line-next.auto.out ∙ l.invariant.1,
       rw (next_line c.args.main.now l.i (omega arith)) (put_then (omega arith) l.invariant.2 c.put_line-next.ensures),
     )
-
-pub returns : goal.returns
-returns c =
-    let main = c.args.main.now in
-    let l = c.loop-i in
-    whole (take_all l.i main (omega arith)) l.invariant.2

@@ -1,6 +1,6 @@
 -- `two_bytes` meets its contract: marks and P, each one byte.
 -- Assumes nothing.
-use Prim.Native.Nat.{◌+◌, ◌-◌, ◌<◌}
+use Prim.Native.Nat.{◌+◌, ◌-◌}
 use mathlib.Core.Path.{◌≡◌, refl}
 use native.Mathlib.Omega.{arith}
 use lib.ListN.{get_or}
@@ -19,32 +19,26 @@ returns-in_default c =
 
 pub returns-then-marks-ne0 : goal.returns-then-marks-ne0
 returns-then-marks-ne0 c =
-    let marks : let a = c.args in (get_or a.trail.now (a.end - 2) 0 ≡ c.in-Got.marks) × (c.in-Got.marks < 64) = let a = c.args in
-    is_byte a.trail.now (a.end - 2) (a.end - 2 + 1) 64 refl (omega arith) (omega arith) c.read_number.ensures c.in-Got.is in
     let a = c.args in
     let s = a.trail.now in
-    let m = marks in
+    let m = is_byte s (a.end - 2) (a.end - 2 + 1) 64 refl (omega arith) (omega arith) c.read_number.ensures c.in-Got.is in
     let b = last_byte s (a.end - 2 + 1) a.end (omega arith) (omega arith) in
     p_alone a.kind s a.end 2 _ (omega arith) (omega arith) (omega arith) m.0 m.1 _ b c.if-marks-ne0.true
 
 pub returns-in_default-read_number : goal.returns-in_default-read_number
 returns-in_default-read_number c =
-    let marks : let a = c.args in (get_or a.trail.now (a.end - 2) 0 ≡ c.in-Got.marks) × (c.in-Got.marks < 64) = let a = c.args in
-    is_byte a.trail.now (a.end - 2) (a.end - 2 + 1) 64 refl (omega arith) (omega arith) c.read_number.ensures c.in-Got.is in
     let a = c.args in
     let s = a.trail.now in
-    let m = marks in
+    let m = is_byte s (a.end - 2) (a.end - 2 + 1) 64 refl (omega arith) (omega arith) c.read_number.ensures c.in-Got.is in
     let b = last_byte s (a.end - 2 + 1) a.end (omega arith) (omega arith) in
     let large = no_byte s (a.end - 2 + 1) a.end 128 (omega arith) (omega arith) (omega arith) c.read_number-2.ensures c.in_default-read_number.is in
     p_lacking a.kind s a.end 2 _ (omega arith) (omega arith) (omega arith) m.0 m.1 _ b large
 
 pub returns : goal.returns
 returns c =
-    let marks : let a = c.args in (get_or a.trail.now (a.end - 2) 0 ≡ c.in-Got.marks) × (c.in-Got.marks < 64) = let a = c.args in
-    is_byte a.trail.now (a.end - 2) (a.end - 2 + 1) 64 refl (omega arith) (omega arith) c.read_number.ensures c.in-Got.is in
     let a = c.args in
     let s = a.trail.now in
-    let m = marks in
+    let m = is_byte s (a.end - 2) (a.end - 2 + 1) 64 refl (omega arith) (omega arith) c.read_number.ensures c.in-Got.is in
     let p = is_byte s (a.end - 2 + 1) a.end 128 (omega arith) (omega arith) (omega arith) c.read_number-2.ensures c.in-Got-read_number.is in
     let b : slice (a.end - 2 + 1) a.end s ≡ c.in-Got-read_number.p ∷ [] = rw (last_byte s (a.end - 2 + 1) a.end (omega arith) (omega arith), p.0) in
     p_kept a.kind s a.end 2 _ (omega arith) (omega arith) (omega arith) m.0 m.1 _ b c.if-marks-ne0.false p.1

@@ -1,9 +1,7 @@
 -- `two_numbers` meets its contract: each of the two bytes is a number below 128, or one is not.
 -- Assumes nothing.
-use Prim.Native.Nat.{◌-◌, ◌<◌}
-use mathlib.Core.Path.{◌≡◌}
+use Prim.Native.Nat.{◌-◌}
 use native.Mathlib.Omega.{arith}
-use lib.ListN.{get_or}
 use Rattle.reading.proofs.ReadingNumbers.{last_two, is_byte, no_byte}
 use Rattle.reading.proofs.short.two_numbers.Goals as goal
 
@@ -23,10 +21,8 @@ returns-in_default-read_number c =
 
 pub returns : goal.returns
 returns c =
-    let p_is : let a = c.args in (get_or a.trail.now (a.end - 2) 0 ≡ c.in-Got.p) × (c.in-Got.p < 128) = let a = c.args in
-    is_byte a.trail.now (a.end - 2) (a.end - 1) 128 (omega arith) (omega arith) (omega arith) c.read_number.ensures c.in-Got.is in
     let a = c.args in
     let s = a.trail.now in
-    let p = p_is in
+    let p = is_byte s (a.end - 2) (a.end - 1) 128 (omega arith) (omega arith) (omega arith) c.read_number.ensures c.in-Got.is in
     let v = is_byte s (a.end - 1) a.end 128 (omega arith) (omega arith) (omega arith) c.read_number-2.ensures c.in-Got-read_number.is in
     (rw (last_two s (a.end - 2) (a.end - 1) a.end (omega arith) (omega arith) (omega arith), p.0, v.0), p.1, v.1)

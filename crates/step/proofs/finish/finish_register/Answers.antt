@@ -1,16 +1,18 @@
 -- The record is that of an operation that changed this register, or none if the value is the same.
-use mathlib.Core.Path.{◌≡◌, refl, ap, ◌∙◌}
-use mathlib.Core.Bool.{false}
+use mathlib.Core.Path.{◌≡◌, refl}
+use mathlib.Core.Bool.{Bool, false}
+use mathlib.Core.List.{List}
 use Prim.Native.Nat.{ℕ, zero, suc, ◌<◌}
 use native.Mathlib.Omega.{arith}
-use lib.ListN.{get_or, set, length-set}
-use lib.Seq.{set-get_or}
+use lib.ListN.{length, get_or, set, length-set}
 use Rattle.report.specs.AnnexA.{Mem}
 use Rattle.trail.specs.OneChange.{Register, is_a, is_x, is_y, register_changed}
+use Rattle.trail.specs.Records.{old_values}
+use Rattle.trail.specs.declared.Kind.TheVariants as kind
 use Rattle.trail.specs.declared.Word.TheVariants.{Kept}
 use Rattle.step.specs.Phases.{held, alone}
 use Rattle.step.specs.Finishing.{mark_weight}
-use Rattle.step.proofs.Completing.{register_values, completes_full, completes, kept_same}
+use Rattle.step.proofs.Completing.{register_values, completes_full, completes}
 use Rattle.step.proofs.finish.finish_register.Goals as goal
 
 weighs : (k : ℕ) → k < 3 → Register (mark_weight k)
@@ -19,12 +21,10 @@ weighs (suc zero) h = is_x
 weighs (suc (suc zero)) h = is_y
 weighs (suc (suc (suc k))) h = absurd (omega arith)
 
-pub returns-then-old-v : goal.returns-then-old-v
-returns-then-old-v c =
-    let a = c.args in
-    let g = a.sources.now in
-    let same : set g a.k a.v ≡ g = rw (← c.if-old-v.true) (set-get_or g a.k 0) in
-    (kept_same c.finish_flags.result g, λ (r : Mem). rw same (c.finish_flags.ensures r g))
+-- Marked with m, the old value of register k is that of writing v to it.
+changed : (g : List ℕ) (k v p₀ p : ℕ) (b₀ b stop : Bool) {m : ℕ} → length g ≡ 4 → k < 3 → (get_or g k 0 ≡ v → ⊥) → m ≡ mark_weight k
+    → register_changed m p₀ b₀ false (get_or g k 0) ≡ old_values kind.Step (held g p₀ b₀ false) (held (set g k v) p b stop) Kept
+changed g k v p₀ p b₀ b stop long low other marked = rw marked (register_values g k v p₀ p b₀ b stop (omega (arith, long)) low other)
 
 pub add_register-requires : goal.add_register-requires
 add_register-requires c =
@@ -33,17 +33,13 @@ add_register-requires c =
 pub returns-in_default : goal.returns-in_default
 returns-in_default c =
     let a = c.args in
-    let g = a.sources.now in (
-      refl,
-      λ (r : Mem). completes_full (held g a.p0 a.b0 false) (alone (held (set g a.k a.v) a.p a.b a.stop)) r a.trail.now a.used Kept _ _ _ refl
-          (ap (λ (n : ℕ). register_changed n a.p0 a.b0 false (get_or g a.k 0)) c.mark_of.ensures ∙ register_values g a.k a.v a.p0 a.p a.b0 a.b a.stop (omega (arith, c.requires.3)) c.requires.0 c.if-old-v.false) c.add_register.ensures c.in_default.is,
-    )
+    let old = changed a.sources.now a.k a.v a.p0 a.p a.b0 a.b a.stop c.requires.3 c.requires.0 c.if-old-v.false c.mark_of.ensures in
+    (refl, λ (r : Mem). completes_full (held a.sources.now a.p0 a.b0 false) (alone (held (set a.sources.now a.k a.v) a.p a.b a.stop)) r a.trail.now a.used Kept _ _ _ refl old c.add_register.ensures c.in_default.is)
 
 pub returns : goal.returns
 returns c =
     let a = c.args in
-    let g = a.sources.now in (
-      length-set g a.k a.v,
-      λ (r : Mem). completes (held g a.p0 a.b0 false) (alone (held (set g a.k a.v) a.p a.b a.stop)) r a.trail.now a.used Kept _ _ _ refl
-          (ap (λ (n : ℕ). register_changed n a.p0 a.b0 false (get_or g a.k 0)) c.mark_of.ensures ∙ register_values g a.k a.v a.p0 a.p a.b0 a.b a.stop (omega (arith, c.requires.3)) c.requires.0 c.if-old-v.false) c.add_register.ensures c.in-Used.n r c.in-Used.is refl,
+    let old = changed a.sources.now a.k a.v a.p0 a.p a.b0 a.b a.stop c.requires.3 c.requires.0 c.if-old-v.false c.mark_of.ensures in (
+      length-set a.sources.now a.k a.v,
+      λ (r : Mem). completes (held a.sources.now a.p0 a.b0 false) (alone (held (set a.sources.now a.k a.v) a.p a.b a.stop)) r a.trail.now a.used Kept _ _ _ refl old c.add_register.ensures c.in-Used.n r c.in-Used.is refl,
     )

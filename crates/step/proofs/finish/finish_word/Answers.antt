@@ -17,9 +17,6 @@ returns-in_default c =
     λ (g : List ℕ). completes_full (held g a.p0 a.b0 false) (record { machine = held g a.p a.b0 false; written = phases.Word a.place a.v }) stores a.trail.now a.used (changed_to a.place old a.v) _ _ _
     (written_over stores a.place old a.v c.word_at-old.ensures) (kept_values g a.p0 a.p a.b0 a.b0 false (changed_to a.place old a.v)) c.note_word.ensures c.in_default.is
 
-pub put_word-requires : goal.put_word-requires
-put_word-requires c = c.requires.fitted
-
 pub returns : goal.returns
 returns c =
     let a = c.args in

@@ -10,105 +10,78 @@ use Rattle.step.proofs.phases.deliver.Goals.{then-class-ge7+else-class-b+else-cl
 
 pub returns-then-class-b : goal.returns-then-class-b
 returns-then-class-b c =
-    let a = c.args in
-    let g = a.sources.now in
-    let main = a.main.now in
-    let ports = a.ports.now in
-    (kept_same c.finish_flags.result g, skips_8 g a.p a.b main ports a.f a.class a.r c.requires.in_range c.requires.decodes.0 a.trail.now a.used c.if-class-ge7.true c.if-class-b.true (c.finish_flags.ensures (ram main ports) g))
+    let g = c.args.sources.now in (
+      kept_same c.finish_flags.result g,
+      skips_8 g _ _ _ _ _ _ _ c.requires.in_range c.requires.decodes.0 c.args.trail.now c.args.used c.if-class-ge7.true c.if-class-b.true (c.finish_flags.ensures _ g),
+    )
 
 pub returns-then-class-b-2 : goal.returns-then-class-b-2
 returns-then-class-b-2 c =
-    let a = c.args in
-    let g = a.sources.now in
-    let main = a.main.now in
-    let ports = a.ports.now in
-    (kept_same c.finish_flags-then-class-b-2.result g, skips_9 g a.p a.b main ports a.f a.class a.r c.requires.in_range c.requires.decodes.0 a.trail.now a.used c.if-class-ge7.true c.if-class-b.false c.if-class-b-2.true (c.finish_flags-then-class-b-2.ensures (ram main ports) g))
+    let g = c.args.sources.now in (
+      kept_same c.finish_flags-then-class-b-2.result g,
+      skips_9 g _ _ _ _ _ _ _ c.requires.in_range c.requires.decodes.0 c.args.trail.now c.args.used c.if-class-ge7.true c.if-class-b.false c.if-class-b-2.true (c.finish_flags-then-class-b-2.ensures _ g),
+    )
 
 pub alu_jump-t-requires : goal.alu_jump-t-requires
 alu_jump-t-requires c =
-    let a = c.args in
-    let g = a.sources.now in
-    let main = a.main.now in
-    let ports = a.ports.now in
-    jump_fsf g a.p a.b main ports a.f a.class a.r c.requires.in_range c.requires.decodes.0 a.trail.now a.used c.if-class-ge7.true
+    jump_fsf c.args.sources.now _ _ _ _ _ _ _ c.requires.in_range c.requires.decodes.0 c.args.trail.now c.args.used c.if-class-ge7.true
 
 pub returns-then-f-ne1 : goal.returns-then-f-ne1
 returns-then-f-ne1 c =
-    let a = c.args in
-    let g = a.sources.now in
-    let main = a.main.now in
-    let ports = a.ports.now in
+    let g = c.args.sources.now in
     let t = c.alu_jump-t.result in
-    let j = jumps g a.p a.b a.f (a.p + 1) t.value t.b t.stop (omega (arith, c.requires.lawful.1)) (jump_high g a.p a.b main ports a.f a.class a.r c.requires.in_range c.requires.decodes.0 a.trail.now a.used c.if-class-ge7.true) c.if-f-ne1.true in (
+    let j = jumps g c.args.p c.args.b c.args.f (c.args.p + 1) t.value t.b t.stop (omega (arith, c.requires.lawful.1)) (jump_high g _ _ _ _ _ _ _ c.requires.in_range c.requires.decodes.0 c.args.trail.now c.args.used c.if-class-ge7.true) c.if-f-ne1.true in (
       kept_same c.finish_flags-then-f-ne1.result g,
-      jumps_held g a.p a.b main ports a.f a.class a.r c.requires.in_range c.requires.decodes.0 a.trail.now a.used c.if-class-ge7.true c.if-class-b.false c.if-class-b-2.false c.constant_or_read-o.ensures c.in-Held.is c.alu_jump-t.ensures (rw j (c.finish_flags-then-f-ne1.ensures (ram main ports) g)),
+      jumps_held g _ _ _ _ _ _ _ c.requires.in_range c.requires.decodes.0 c.args.trail.now c.args.used c.if-class-ge7.true c.if-class-b.false c.if-class-b-2.false c.constant_or_read-o.ensures c.in-Held.is c.alu_jump-t.ensures (rw j (c.finish_flags-then-f-ne1.ensures _ g)),
     )
 
 pub returns-in-Bad : goal.returns-in-Bad
 returns-in-Bad c =
-    let a = c.args in
-    let g = a.sources.now in
-    let main = a.main.now in
-    let ports = a.ports.now in
-    (kept_same c.finish_flags-in-Bad.result g, jumps_bad g a.p a.b main ports a.f a.class a.r c.requires.in_range c.requires.decodes.0 a.trail.now a.used c.if-class-ge7.true c.if-class-b.false c.if-class-b-2.false c.constant_or_read-o.ensures c.in-Bad.is (c.finish_flags-in-Bad.ensures (ram main ports) g))
+    let g = c.args.sources.now in (
+      kept_same c.finish_flags-in-Bad.result g,
+      jumps_bad g _ _ _ _ _ _ _ c.requires.in_range c.requires.decodes.0 c.args.trail.now c.args.used c.if-class-ge7.true c.if-class-b.false c.if-class-b-2.false c.constant_or_read-o.ensures c.in-Bad.is (c.finish_flags-in-Bad.ensures _ g),
+    )
 
 pub returns-in-Unfitted : goal.returns-in-Unfitted
 returns-in-Unfitted c =
-    let a = c.args in
-    let g = a.sources.now in
-    let main = a.main.now in
-    let ports = a.ports.now in
-    (refl, jumps_lacking g a.p a.b main ports a.f a.class a.r c.requires.in_range c.requires.decodes.0 a.trail.now a.used c.if-class-ge7.true c.if-class-b.false c.if-class-b-2.false c.constant_or_read-o.ensures c.in-Unfitted.is)
+    (refl, jumps_lacking c.args.sources.now _ _ _ _ _ _ _ c.requires.in_range c.requires.decodes.0 c.args.trail.now c.args.used c.if-class-ge7.true c.if-class-b.false c.if-class-b-2.false c.constant_or_read-o.ensures c.in-Unfitted.is)
 
 pub returns-in-Bad-o : goal.returns-in-Bad-o
 returns-in-Bad-o c =
-    let a = c.args in
-    let g = a.sources.now in
-    let main = a.main.now in
-    let ports = a.ports.now in
-    (kept_same c.finish_flags-in-Bad-o.result g, computes_bad g a.p a.b main ports a.f a.class a.r c.requires.in_range c.requires.decodes.0 a.trail.now a.used c.requires.decodes.1 c.if-class-ge7.false c.operand_of-o.ensures c.in-Bad-o.is (c.finish_flags-in-Bad-o.ensures (ram main ports) g))
+    let g = c.args.sources.now in (
+      kept_same c.finish_flags-in-Bad-o.result g,
+      computes_bad g _ _ _ _ _ _ _ c.requires.in_range c.requires.decodes.0 c.args.trail.now c.args.used c.requires.decodes.1 c.if-class-ge7.false c.operand_of-o.ensures c.in-Bad-o.is (c.finish_flags-in-Bad-o.ensures _ g),
+    )
 
 pub returns-in-Unfitted-o : goal.returns-in-Unfitted-o
 returns-in-Unfitted-o c =
-    let a = c.args in
-    let g = a.sources.now in
-    let main = a.main.now in
-    let ports = a.ports.now in
-    (refl, computes_lacking g a.p a.b main ports a.f a.class a.r c.requires.in_range c.requires.decodes.0 a.trail.now a.used c.requires.decodes.1 c.if-class-ge7.false c.operand_of-o.ensures c.in-Unfitted-o.is)
+    (refl, computes_lacking c.args.sources.now _ _ _ _ _ _ _ c.requires.in_range c.requires.decodes.0 c.args.trail.now c.args.used c.requires.decodes.1 c.if-class-ge7.false c.operand_of-o.ensures c.in-Unfitted-o.is)
 
 pub finish_register-requires : goal.finish_register-requires
-finish_register-requires c =
-    let a = c.args in
-    let g = a.sources.now in
-    let main = a.main.now in
-    let ports = a.ports.now in (
-      elim c.if-class-ge7.branch [
-        | then-class-ge7+else-class-b+else-class-b-2+in-Held+else-f-ne1 w ↦ rw w.d-is (omega arith)
-        | else-class-ge7+in-Held-o w ↦ rw w.d-is (register_low g a.p a.b main ports a.f a.class a.r c.requires.in_range c.requires.decodes.0 a.trail.now a.used c.requires.decodes.1 w.if-class-ge7.false)
-      ],
-      c.requires.lawful.0.p_lt,
-      c.requires.lawful.0.used_le,
-      c.requires.lawful.1,
-    )
+finish_register-requires c = (
+  elim c.if-class-ge7.branch [
+    | then-class-ge7+else-class-b+else-class-b-2+in-Held+else-f-ne1 w ↦ rw w.d-is (omega arith)
+    | else-class-ge7+in-Held-o w ↦ rw w.d-is (register_low c.args.sources.now _ _ _ _ _ _ _ c.requires.in_range c.requires.decodes.0 c.args.trail.now c.args.used c.requires.decodes.1 w.if-class-ge7.false)
+  ],
+  c.requires.lawful.0.p_lt,
+  c.requires.lawful.0.used_le,
+  c.requires.lawful.1,
+)
 
 pub returns : goal.returns
 returns c =
-    let a = c.args in
-    let g = a.sources.now in
-    let main = a.main.now in
-    let ports = a.ports.now in
+    let g = c.args.sources.now in
     let o = c.finish_register in
-    let n = a.p + 1 in
     let long : 2 < length g = omega (arith, c.requires.lawful.1) in (
       o.ensures.0,
       elim c.if-class-ge7.branch [
         | then-class-ge7+else-class-b+else-class-b-2+in-Held+else-f-ne1 w ↦
             let t = w.alu_jump-t.result in
-            jumps_held g a.p a.b main ports a.f a.class a.r c.requires.in_range c.requires.decodes.0 a.trail.now a.used w.if-class-ge7.true w.if-class-b.false w.if-class-b-2.false w.constant_or_read-o.ensures w.in-Held.is w.alu_jump-t.ensures
-            (rw (calls g a.p a.b a.f n t.value t.b t.stop long (jump_high g a.p a.b main ports a.f a.class a.r c.requires.in_range c.requires.decodes.0 a.trail.now a.used w.if-class-ge7.true) w.if-f-ne1.false) (rw w.d-is at (o.ensures.1 (ram main ports))))
+            jumps_held g _ _ _ _ _ _ _ c.requires.in_range c.requires.decodes.0 c.args.trail.now c.args.used w.if-class-ge7.true w.if-class-b.false w.if-class-b-2.false w.constant_or_read-o.ensures w.in-Held.is w.alu_jump-t.ensures
+            (rw (calls g c.args.p c.args.b c.args.f (c.args.p + 1) t.value t.b t.stop long (jump_high g _ _ _ _ _ _ _ c.requires.in_range c.requires.decodes.0 c.args.trail.now c.args.used w.if-class-ge7.true) w.if-f-ne1.false) (rw w.d-is at (o.ensures.1 (ram c.args.main.now c.args.ports.now))))
         | else-class-ge7+in-Held-o w ↦
             let t = w.alu_register-t.result in
-            computes_held g a.p a.b main ports a.f a.class a.r c.requires.in_range c.requires.decodes.0 a.trail.now a.used c.requires.decodes.1 w.if-class-ge7.false w.operand_of-o.ensures w.in-Held-o.is w.alu_register-t.ensures
-            (rw (to_register g a.p a.b a.f n t.value t.b t.stop long (register_low g a.p a.b main ports a.f a.class a.r c.requires.in_range c.requires.decodes.0 a.trail.now a.used c.requires.decodes.1 w.if-class-ge7.false)) (rw w.d-is at (o.ensures.1 (ram main ports))))
+            computes_held g _ _ _ _ _ _ _ c.requires.in_range c.requires.decodes.0 c.args.trail.now c.args.used c.requires.decodes.1 w.if-class-ge7.false w.operand_of-o.ensures w.in-Held-o.is w.alu_register-t.ensures
+            (rw (to_register g c.args.p c.args.b c.args.f (c.args.p + 1) t.value t.b t.stop long (register_low g _ _ _ _ _ _ _ c.requires.in_range c.requires.decodes.0 c.args.trail.now c.args.used c.requires.decodes.1 w.if-class-ge7.false)) (rw w.d-is at (o.ensures.1 (ram c.args.main.now c.args.ports.now))))
       ],
     )
