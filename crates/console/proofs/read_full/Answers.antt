@@ -4,6 +4,7 @@ use Rattle.std.proofs.KnownBytes.{Consumes-trans}
 use Rattle.std.proofs.lemmas.Slice.{take-put_mid_below}
 use borrow.Rule.Slice.PartMut.{put_mid, post_of}
 use lib.Seq.{take-add, take-append-le}
+use Rattle.std.proofs.Common.{arith}
 use Rattle.console.proofs.read_full.Goals as goal
 
 -- After a read of n bytes into the part behind the first `done`, the front is what it was, and then those n.
@@ -19,3 +20,6 @@ loop-done-preserved g c =
     let read = c.in_ok-n.ensures in
     let joined = more_read c.loop-done.done (length c.loop-done.bytes - c.loop-done.done) c.in_ok-n.n c.loop-done.bytes c.read.new.buf c.loop-done.invariant.0 read.bound.0 in
     (search rules, subst (Consumes _ _) joined (Consumes-trans _ _ _ _ _ c.loop-done.invariant.1 read.bytes.0))
+
+pub returns-after-loop-done-clause-end : goal.returns-after-loop-done-clause-end
+returns-after-loop-done-clause-end g c = λ more. absurd (omega arith)
