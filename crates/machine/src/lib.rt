@@ -2,22 +2,22 @@
 #![tactic(auto)]
 
 // The address of a word of the main store.
-#[derive(Clone, Copy)]
+#[derive(Clone, Copy, Debug, PartialEq, Eq)]
 pub struct MainAddress(pub u32);
 
 // The number of a port.
-#[derive(Clone, Copy)]
+#[derive(Clone, Copy, Debug, PartialEq, Eq)]
 pub struct PortNumber(pub u32);
 
 // Where a word stands. A main address and a port number are kept apart, so that a port is never read at a main address.
-#[derive(Clone, Copy)]
+#[derive(Clone, Copy, Debug, PartialEq, Eq)]
 pub enum Place {
     Main(MainAddress),
     Port(PortNumber),
 }
 
-// The machine without its stores: A, X, Y, P and the flags B and STOP.
-#[derive(Clone, Copy)]
+// The machine without its stores: A, X, Y, P and the flags B and STOP. The default is the cleared machine: zeros, and the flags down.
+#[derive(Clone, Copy, Debug, Default, PartialEq, Eq)]
 pub struct Machine {
     pub a: u32,
     pub x: u32,
@@ -28,10 +28,10 @@ pub struct Machine {
 }
 
 // How a run that was not refused ended (document 01, "Numbers the counter sees").
-#[derive(Clone, Copy)]
+#[derive(Clone, Copy, Debug, PartialEq, Eq)]
 pub enum Ending {
-    Stopped,
-    Budget,
-    Unfitted,
-    Full,
+    Stopped = 0,
+    Budget = 1,
+    Unfitted = 2,
+    Full = 3,
 }
