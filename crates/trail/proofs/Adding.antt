@@ -8,9 +8,9 @@ use native.Mathlib.Numerals.{add-one}
 use lib.ListN.{length, take, drop, get_or, set, length-set, length-append, length-take, length-drop}
 use lib.Seq.{paste, paste-zero, paste-suc, take_at}
 use borrow.Author.Tests.{lt-ltb, le-ltb}
-use Rattle.trail.specs.declared.Added.TheVariants.{Used, Full}
+use Rattle.std.specs.Prelude.{Ok, Err}
 use Rattle.trail.specs.Numbers.{Put}
-use Rattle.trail.specs.Records.{put, added}
+use Rattle.trail.specs.Records.{put, added, trail_full}
 
 -- ---- what is put into a trail
 
@@ -58,14 +58,14 @@ module _ {old : List ℕ} {used : ℕ} {b : List ℕ} {n : ℕ} {new : List ℕ}
         whole = rw (g.whole, add-one) (paste-suc old used b i 0 (omega (arith, g.room)) (omega (arith, g.held)));
       }
 
-  pub ends : {r b₀ : List ℕ} → Put 0 r b₀ b n → n ≤ i → (Used (used + n), new) ≡ added old used r
+  pub ends : {r b₀ : List ℕ} → Put 0 r b₀ b n → n ≤ i → (Ok (used + n), new) ≡ added old used r
   unfolding added
   ends {r} {b₀} e h =
       let l : n ≡ length r = omega (arith, e.place) in
       let j : i ≡ n = omega (arith, g.some) in
       rw (le-ltb (length old - used) (length r) (omega (arith, g.room)), g.whole, j, e.bytes, l)
-      (ap (λ (t : List ℕ). (Used (used + length r), t)) (append_assoc (take used old) r (drop (used + length r) old)))
+      (ap (λ (t : List ℕ). (Ok (used + length r), t)) (append_assoc (take used old) r (drop (used + length r) old)))
 
-pub full : (old : List ℕ) (used : ℕ) {r b₀ b : List ℕ} {n : ℕ} → Put 0 r b₀ b n → length old - used < n → (Full, old) ≡ added old used r
+pub full : (old : List ℕ) (used : ℕ) {r b₀ b : List ℕ} {n : ℕ} → Put 0 r b₀ b n → length old - used < n → (Err trail_full, old) ≡ added old used r
 unfolding added
 full old used {r} {b₀} {b} {n} e h = rw (lt-ltb (length old - used) (length r) (omega (arith, e.place)))

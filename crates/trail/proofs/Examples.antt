@@ -4,10 +4,9 @@ use Prim.Native.Nat.{ℕ, ◌+◌, ◌-◌, ◌^◌}
 use mathlib.Core.Path.{◌≡◌, refl}
 use mathlib.Core.List.{List, [], ◌∷◌, ◌++◌}
 use Rattle.trail.specs.declared.OldValues.{OldValues}
-use Rattle.trail.specs.declared.Newest.TheVariants.{Record, Broken}
 use Rattle.trail.specs.Numbers.{groups_in, groups, broken, read_in}
 use Rattle.trail.specs.Records.{record_bytes, record_in}
-use Rattle.trail.specs.Newest.{newest_fitted, newest_in, read_in_form}
+use Rattle.trail.specs.Newest.{newest_fitted, newest_in, read_in_form, broken_record, read_back}
 
 -- ---- numbers
 
@@ -40,51 +39,51 @@ trail_made : record_bytes (old 1 0 0 0 0) ++ (record_bytes (old 8 1 0 10 0) ++ (
 unfolding record_in groups groups_in
 trail_made = refl
 
-trail_fourth : newest_fitted 8192 256 trail 19 ≡ Record (old 16 3 0 0 0) 15
+trail_fourth : newest_fitted 8192 256 trail 19 ≡ read_back (old 16 3 0 0 0) 15
 unfolding newest_fitted newest_in read_in_form
 trail_fourth = refl
 
-trail_third : newest_fitted 8192 256 trail 15 ≡ Record (old 0 2 0 0 0) 11
+trail_third : newest_fitted 8192 256 trail 15 ≡ read_back (old 0 2 0 0 0) 11
 unfolding newest_fitted newest_in read_in_form
 trail_third = refl
 
-trail_second : newest_fitted 8192 256 trail 11 ≡ Record (old 8 1 0 10 0) 5
+trail_second : newest_fitted 8192 256 trail 11 ≡ read_back (old 8 1 0 10 0) 5
 unfolding newest_fitted newest_in read_in_form
 trail_second = refl
 
-trail_first : newest_fitted 8192 256 trail 5 ≡ Record (old 1 0 0 0 0) 0
+trail_first : newest_fitted 8192 256 trail 5 ≡ read_back (old 1 0 0 0 0) 0
 unfolding newest_fitted newest_in read_in_form
 trail_first = refl
 
 -- ---- broken records, and one that no operation makes
 
 -- A is 0 with a group too many.
-broken_number : newest_fitted 8192 256 (0x01 ∷ 0x01 ∷ 0x00 ∷ 0x80 ∷ 0x00 ∷ 0x05 ∷ []) 6 ≡ Broken
+broken_number : newest_fitted 8192 256 (0x01 ∷ 0x01 ∷ 0x00 ∷ 0x80 ∷ 0x00 ∷ 0x05 ∷ []) 6 ≡ broken_record
 unfolding newest_fitted newest_in read_in_form
 broken_number = refl
 
 -- A byte is left over.
-broken_end : newest_fitted 8192 256 (0x01 ∷ 0x00 ∷ 0x02 ∷ 0x00 ∷ 0x04 ∷ []) 5 ≡ Broken
+broken_end : newest_fitted 8192 256 (0x01 ∷ 0x00 ∷ 0x02 ∷ 0x00 ∷ 0x04 ∷ []) 5 ≡ broken_record
 unfolding newest_fitted newest_in read_in_form
 broken_end = refl
 
 -- Main address 10 on a board of 10 words.
-broken_place : newest_fitted 10 256 trail 11 ≡ Broken
+broken_place : newest_fitted 10 256 trail 11 ≡ broken_record
 unfolding newest_fitted newest_in read_in_form
 broken_place = refl
 
 -- All registers and a word of port 2.
 all_marked : newest_fitted 8192 256 (0x04 ∷ 0x0F ∷ 0x00 ∷ 0x01 ∷ 0x02 ∷ 0x03 ∷ 0x82 ∷ 0x80 ∷ 0x40 ∷ 0x05 ∷ 0x0A ∷ []) 11
-    ≡ Record (record { kind = 4; marks = 15; p = 0; a = 1; x = 2; y = 3; place = 2 ^ 20 + 2; value = 5 }) 0
+    ≡ read_back (record { kind = 4; marks = 15; p = 0; a = 1; x = 2; y = 3; place = 2 ^ 20 + 2; value = 5 }) 0
 unfolding newest_fitted newest_in read_in_form
 all_marked = refl
 
 -- ---- kinds: 5, and 4 with a group too many
 
-kind_five : newest_fitted 8192 256 (0x05 ∷ 0x00 ∷ 0x02 ∷ 0x03 ∷ []) 4 ≡ Broken
+kind_five : newest_fitted 8192 256 (0x05 ∷ 0x00 ∷ 0x02 ∷ 0x03 ∷ []) 4 ≡ broken_record
 unfolding newest_fitted newest_in read_in_form
 kind_five = refl
 
-kind_in_two_groups : newest_fitted 8192 256 (0x84 ∷ 0x00 ∷ 0x00 ∷ 0x02 ∷ 0x04 ∷ []) 5 ≡ Broken
+kind_in_two_groups : newest_fitted 8192 256 (0x84 ∷ 0x00 ∷ 0x00 ∷ 0x02 ∷ 0x04 ∷ []) 5 ≡ broken_record
 unfolding newest_fitted newest_in read_in_form
 kind_in_two_groups = refl

@@ -8,14 +8,13 @@ use native.Mathlib.Omega.{arith}
 use lib.Dec.{ltb}
 use lib.ListN.{length, length-append}
 use borrow.Author.Tests.{ltb-true, ltb-false, eq-eqb}
+use Rattle.std.specs.Prelude.{None}
 use Rattle.report.specs.AnnexA.{BV}
 use Rattle.machine.specs.declared.Machine.{Machine}
 use Rattle.trail.specs.declared.OldValues.{OldValues}
 use Rattle.trail.specs.declared.Kind.{Kind}
-use Rattle.trail.specs.declared.Word.{Word}
-use Rattle.trail.specs.declared.Word.TheVariants.{Kept}
 use Rattle.trail.specs.Numbers.{groups, bytes_if, GoodIf}
-use Rattle.trail.specs.Records.{marked, body, body_in, record_bytes, Good, GoodIn, differs, word_changed, old_values, record_in}
+use Rattle.trail.specs.Records.{Word, marked, body, body_in, record_bytes, Good, GoodIn, differs, word_changed, old_values, record_in}
 use Rattle.trail.specs.OneChange.{closed, one_value}
 use Rattle.trail.proofs.NumbersReadBack.{cap, groups_one, groups_more}
 use Rattle.trail.proofs.Marks.{bit, marks, Sound, old_values_good}
@@ -165,9 +164,9 @@ old_values_length k {old} new {w} s =
     rw (m.a, m.x, m.y, m.word) at (record_length (omega arith) (old_values_good k new s))
 
 -- What `add` takes: an operation that changes no word, or no register.
-pub kept_short : (k : Kind) {old : Machine} (new : Machine) → Sound old Kept → length (body (old_values k old new Kept)) ≤ 27
+pub kept_short : (k : Kind) {old : Machine} (new : Machine) → Sound old None → length (body (old_values k old new None)) ≤ 27
 kept_short k {old} new s =
-    omega (arith, record_count (old_values k old new Kept), old_values_length k new s, registers_three old new)
+    omega (arith, record_count (old_values k old new None), old_values_length k new s, registers_three old new)
 
 pub same_short : (k : Kind) (m : Machine) {w : Word} → Sound m w → length (body (old_values k m m w)) ≤ 27
 same_short k m {w} s =

@@ -6,15 +6,16 @@ use mathlib.Core.Bool.{Bool, true, false, cond}
 use native.Mathlib.Omega.{arith}
 use lib.Dec.{eqb}
 use borrow.Author.Tests.{eq-eqb, ne_eqb}
+use Rattle.std.specs.Prelude.{Some, None}
 use Rattle.report.specs.AnnexA.{BV}
 use Rattle.machine.specs.declared.Machine.{Machine}
+use Rattle.machine.specs.Held.{where_of}
+use Rattle.machine.specs.declared.Place.{Place}
 use Rattle.machine.specs.declared.Place.TheVariants.{Main, Port}
 use Rattle.trail.specs.declared.Kind.{Kind}
 use Rattle.trail.specs.declared.Kind.TheVariants.{FromOld, Step, Reset, Force, Set}
-use Rattle.trail.specs.declared.Word.{Word}
-use Rattle.trail.specs.declared.Word.TheVariants.{Kept, Changed}
 use Rattle.trail.specs.Numbers.{GoodIf}
-use Rattle.trail.specs.Records.{marked, differs, word_changed, word_place, word_value, marks_by, Addressed, Good, kind_number, old_values}
+use Rattle.trail.specs.Records.{Word, marked, differs, word_changed, word_place, word_value, place_number, marks_by, Addressed, Good, kind_number, old_values}
 
 pub bit : (t : Bool) → BV t ≤ 1
 bit true = omega arith
@@ -67,13 +68,16 @@ good_if true bound n h = h
 good_if false bound n h = refl
 
 pub good_place : (w : Word) → Addressed w → GoodIf (word_changed w) (2 ^ 21) (word_place w)
-good_place Kept h = refl
-good_place (Changed (Main n) v) h = omega arith
-good_place (Changed (Port n) v) h = omega arith
+good_place None h = refl
+good_place (Some w) h = go w.place h
+  where
+    go : (q : Place) → (where_of q).1 < 2 ^ 20 → place_number q < 2 ^ 21
+    go (Main n) l = omega arith
+    go (Port n) l = omega arith
 
 good_value : (w : Word) → word_value w < 2 ^ 32 → GoodIf (word_changed w) (2 ^ 32) (word_value w)
-good_value Kept h = refl
-good_value (Changed q v) h = h
+good_value None h = refl
+good_value (Some w) h = h
 
 -- P and the address of the word that changed are below 2^20, and the registers and the word's old value below 2^32.
 pub record Sound (old : Machine) (w : Word) : Type 0 where

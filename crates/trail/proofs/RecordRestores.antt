@@ -10,14 +10,13 @@ use lib.Dec.{eqb}
 use lib.ListN.{length, length-set}
 use lib.Seq.{set-set, set-get_or, get_or-set_same}
 use borrow.Author.Tests.{eqb-true, eq-eqb, ltb-true, lt-ltb, le-ltb}
+use Rattle.std.specs.Prelude.{Some, None}
 use Rattle.report.specs.AnnexA.{Mem, BV}
 use Rattle.report.specs.Section3.{State}
 use Rattle.report.specs.Parts.{Where, word_at, with_word, fitted, InRange}
 use Rattle.machine.specs.Held.{machine_of, place_of}
 use Rattle.trail.specs.declared.Kind.{Kind}
-use Rattle.trail.specs.declared.Word.{Word}
-use Rattle.trail.specs.declared.Word.TheVariants.{Kept, Changed}
-use Rattle.trail.specs.Records.{differs, place_number, where_of_number, word_changed, word_place, word_value, Addressed, changed_word, old_if_changed, old_values, old_values_of, record_of, restored, Good}
+use Rattle.trail.specs.Records.{Word, differs, place_number, where_of_number, word_changed, word_place, word_value, Addressed, changed_word, old_if_changed, old_values, old_values_of, record_of, restored, Good}
 use Rattle.trail.specs.Newest.{fits}
 use Rattle.trail.proofs.Lengths.{registers_changed, old_values_length}
 use Rattle.trail.proofs.Marks.{marks, Sound, old_values_good}
@@ -73,14 +72,14 @@ record Told (old new : Mem) (w : Word) : Type 0 where
   value : (n : ℕ) → ((q : Where) → word_at old q < n) → 0 < n → word_value w < n
   fitting : word_changed w ≡ true → fits (length new.main) (length new.ports) (where_of_number (word_place w)) ≡ true
 
-told_kept : (old new : Mem) → new ≡ old → Told old new Kept
+told_kept : (old new : Mem) → new ≡ old → Told old new None
 told_kept old new e = record { back = e; address = tt; value = λ n h z. z; fitting = λ h. let z : ◌≡◌ {A = ℕ} 0 1 = cc in absurd (omega arith) }
 
-addressed : (q : Where) (v : ℕ) → q.1 < 2 ^ 20 → Addressed (Changed (place_of q) v)
+addressed : (q : Where) (v : ℕ) → q.1 < 2 ^ 20 → Addressed (Some (record { place = place_of q; value = v }))
 addressed (true, a) v h = h
 addressed (false, a) v h = h
 
-told_put : (old : Mem) (q : Where) (v : ℕ) → fitted old q ≡ true → q.1 < 2 ^ 20 → Told old (with_word old q v) (Changed (place_of q) (word_at old q))
+told_put : (old : Mem) (q : Where) (v : ℕ) → fitted old q ≡ true → q.1 < 2 ^ 20 → Told old (with_word old q v) (Some (record { place = place_of q; value = word_at old q }))
 told_put old q v f h =
     record {
       back = rw (place_back q h) (with_word_back old q v);
@@ -96,7 +95,7 @@ told {old} {new} (kept (some q) e) =
     rw (eq-eqb (word_at old q) (word_at new q) k) (told_kept old new e)
 told {old} {new} (put q v f h e) = rw e (go (eqb (word_at old q) (word_at (with_word old q v) q)) refl)
   where
-    go : (t : Bool) → eqb (word_at old q) (word_at (with_word old q v) q) ≡ t → Told old (with_word old q v) (cond t Kept (Changed (place_of q) (word_at old q)))
+    go : (t : Bool) → eqb (word_at old q) (word_at (with_word old q v) q) ≡ t → Told old (with_word old q v) (cond t None (Some (record { place = place_of q; value = word_at old q })))
     go true k =
         let d : v ≡ word_at old q = sym (eqb-true (word_at old q) (word_at (with_word old q v) q) k ∙ word_put old q v f) in
         told_kept old (with_word old q v) (rw d (with_own_word old q))

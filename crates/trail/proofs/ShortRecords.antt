@@ -6,10 +6,10 @@ use mathlib.Core.Bool.{Bool, true, false}
 use mathlib.Core.List.{List, [], ◌∷◌, ◌++◌, append-nil}
 use native.Mathlib.Omega.{arith}
 use lib.Dec.{eqb}
+use Rattle.std.specs.Prelude.{Some, None, Result}
 use Rattle.report.specs.AnnexA.{BV}
 use Rattle.machine.specs.declared.Place.{Place}
-use Rattle.trail.specs.declared.Added.{Added}
-use Rattle.trail.specs.declared.Word.TheVariants.{Kept, Changed}
+use Rattle.trail.specs.declared.TrailFull.{TrailFull}
 use Rattle.trail.specs.Numbers.{groups}
 use Rattle.trail.specs.Records.{added, record_bytes, marks_by, place_number, record_in}
 use Rattle.trail.specs.OneChange.{closed, one_value, registers_kept, register_changed, Register, is_a, is_x, is_y}
@@ -42,23 +42,23 @@ groups_five h l e₀ e₁ e₂ e₃ = groups_then (omega arith) e₀ (groups_fou
 -- ---- one value and no place
 
 -- What was added, by the groups of P and of the value.
-pub adds_groups : (trail : List ℕ) (used m p v : ℕ) {q s : List ℕ} {r : Added × List ℕ} → groups p ≡ q → groups v ≡ s
+pub adds_groups : (trail : List ℕ) (used m p v : ℕ) {q s : List ℕ} {r : Result ℕ TrailFull × List ℕ} → groups p ≡ q → groups v ≡ s
     → r ≡ added trail used (closed (1 ∷ (m ∷ (q ++ s))))
     → r ≡ added trail used (closed (1 ∷ (m ∷ (groups p ++ groups v))))
 adds_groups trail used m p v e f h = rw (e, f) h
 
 -- ---- no register and no word
 
-kept_bytes : (p : ℕ) (b s : Bool) → record_bytes (registers_kept p b s Kept) ≡ closed (1 ∷ (marks_by false false false false b s ∷ groups p))
+kept_bytes : (p : ℕ) (b s : Bool) → record_bytes (registers_kept p b s None) ≡ closed (1 ∷ (marks_by false false false false b s ∷ groups p))
 unfolding record_in
 kept_bytes p b s =
     let m = bits false false false false b s in
     rw (m.a, m.x, m.y, m.word, groups_one 1 (omega arith), groups_one (marks_by false false false false b s) (omega (arith, m.few)), append-nil (groups p))
 
 -- What was added, by the groups of P.
-pub adds_kept : (trail : List ℕ) (used : ℕ) {k : ℕ} (p : ℕ) (b s : Bool) {q : List ℕ} {r : Added × List ℕ} → k ≡ marks_by false false false false b s → groups p ≡ q
+pub adds_kept : (trail : List ℕ) (used : ℕ) {k : ℕ} (p : ℕ) (b s : Bool) {q : List ℕ} {r : Result ℕ TrailFull × List ℕ} → k ≡ marks_by false false false false b s → groups p ≡ q
     → r ≡ added trail used (closed (1 ∷ (k ∷ q)))
-    → r ≡ added trail used (record_bytes (registers_kept p b s Kept))
+    → r ≡ added trail used (record_bytes (registers_kept p b s None))
 adds_kept trail used p b s m e h = rw (kept_bytes p b s, ← m, e) h
 
 -- ---- one register
@@ -100,7 +100,7 @@ as_register {w} r p b s old e f =
 -- ---- one word
 
 pub as_word : {k l q : ℕ} (p : ℕ) (b s : Bool) (place : Place) (old : ℕ) → k ≡ 16 * BV b → l ≡ 32 * BV s → q ≡ place_number place
-    → one_value (8 + (k + l)) p q old ≡ record_bytes (registers_kept p b s (Changed place old))
+    → one_value (8 + (k + l)) p q old ≡ record_bytes (registers_kept p b s (Some (record { place = place; value = old })))
 unfolding one_value record_in
 as_word {k} {l} p b s place old e f g =
     let m = bits false false false true b s in

@@ -1,13 +1,13 @@
 -- Document 01, "The trail": the newest record, read back from the end of the bytes in use.
 -- Assumes nothing.
-use Rattle.std.specs.Prelude.{ℕ, ◌+◌, ◌-◌, ◌^◌, Bool, true, cond, List, [], ◌∷◌, ltb, get_or}
+use Rattle.std.specs.Prelude.{ℕ, ◌+◌, ◌-◌, ◌^◌, Bool, true, cond, List, [], ◌∷◌, ltb, get_or, Result, Ok, Err}
 use Rattle.std.proofs.Math.Option.{Option, none, some}
 use Rattle.std.proofs.Math.Seq.{slice}
 use Rattle.report.specs.AnnexA.{BV}
 use Rattle.report.specs.Parts.{Where}
 use Rattle.trail.specs.declared.OldValues.{OldValues}
 use Rattle.trail.specs.declared.Newest.{Newest}
-use Rattle.trail.specs.declared.Newest.TheVariants.{Record, Broken}
+use Rattle.trail.specs.declared.Broken.{Broken}
 use Rattle.trail.specs.Numbers.{Read, got, broken, read_below, read_if}
 use Rattle.trail.specs.Records.{marked, where_of_number}
 
@@ -44,28 +44,34 @@ read_record places s = read_in_form true places s
 
 -- ---- the newest record of a trail of which `used` bytes are in use
 
--- The count in use once the record is gone.
-abbrev pub leaving : ℕ → Option OldValues → Newest
-leaving n none = Broken
-leaving n (some o) = Record o n
+-- A record, with the count in use once it is gone, or that it is broken.
+abbrev pub broken_record : Result Newest Broken
+broken_record = Err (record {})
+
+abbrev pub read_back : OldValues → ℕ → Result Newest Broken
+read_back o n = Ok (record { values = o; left = n })
+
+abbrev pub leaving : ℕ → Option OldValues → Result Newest Broken
+leaving n none = broken_record
+leaving n (some o) = read_back o n
 
 -- The record of the L bytes that end at `end`.
 -- L is from 3 to 28, in the old form from 2 to 27.
-abbrev pub before_L_in : Bool → ℕ → List ℕ → ℕ → ℕ → Newest
+abbrev pub before_L_in : Bool → ℕ → List ℕ → ℕ → ℕ → Result Newest Broken
 before_L_in kinds places trail end L =
-    cond (ltb L (2 + BV kinds)) Broken
-    (cond (ltb (27 + BV kinds) L) Broken
-    (cond (ltb end L) Broken
+    cond (ltb L (2 + BV kinds)) broken_record
+    (cond (ltb (27 + BV kinds) L) broken_record
+    (cond (ltb end L) broken_record
     (leaving (end - L) (read_in_form kinds places (slice (end - L) end trail)))))
 
-abbrev pub before_L : ℕ → List ℕ → ℕ → ℕ → Newest
+abbrev pub before_L : ℕ → List ℕ → ℕ → ℕ → Result Newest Broken
 before_L places trail end L = before_L_in true places trail end L
 
 -- The last byte in use is L. (Where no byte is in use, nobody asks: document 01, refusal 7.)
-unfoldable pub newest_in : Bool → ℕ → List ℕ → ℕ → Newest
+unfoldable pub newest_in : Bool → ℕ → List ℕ → ℕ → Result Newest Broken
 newest_in kinds places trail used = before_L_in kinds places trail (used - 1) (get_or trail (used - 1) 0)
 
-abbrev pub newest : ℕ → List ℕ → ℕ → Newest
+abbrev pub newest : ℕ → List ℕ → ℕ → Result Newest Broken
 newest places trail used = newest_in true places trail used
 
 -- ---- the word's place is fitted
@@ -74,11 +80,11 @@ newest places trail used = newest_in true places trail used
 abbrev pub fits : ℕ → ℕ → Where → Bool
 fits main ports (io, a) = cond io (ltb a ports) (ltb a main)
 
-abbrev pub only_fitted : ℕ → ℕ → Newest → Newest
-only_fitted main ports Broken = Broken
-only_fitted main ports (Record o n) =
-    cond (marked 8 o.marks) (cond (fits main ports (where_of_number o.place)) (Record o n) Broken) (Record o n)
+abbrev pub only_fitted : ℕ → ℕ → Result Newest Broken → Result Newest Broken
+only_fitted main ports (Err e) = Err e
+only_fitted main ports (Ok r) =
+    cond (marked 8 r.values.marks) (cond (fits main ports (where_of_number r.values.place)) (Ok r) broken_record) (Ok r)
 
 -- No fitted place has a number of 2^21 or more: a store has at most 2^20 words.
-unfoldable pub newest_fitted : ℕ → ℕ → List ℕ → ℕ → Newest
+unfoldable pub newest_fitted : ℕ → ℕ → List ℕ → ℕ → Result Newest Broken
 newest_fitted main ports trail used = only_fitted main ports (newest (2 ^ 21) trail used)

@@ -1,12 +1,10 @@
 -- The old values of a step, which changes at most one register or one word. Its kind is 1.
 -- That they are its `old_values` is in the crate step, proofs/Completing.antt.
 -- Assumes nothing.
-use Rattle.std.specs.Prelude.{ℕ, Bool, false, cond, List, [], ◌∷◌, ◌++◌, eqb, length, replicate}
+use Rattle.std.specs.Prelude.{ℕ, Bool, false, cond, List, [], ◌∷◌, ◌++◌, eqb, length, replicate, None}
 use Rattle.trail.specs.declared.OldValues.{OldValues}
-use Rattle.trail.specs.declared.Word.{Word}
-use Rattle.trail.specs.declared.Word.TheVariants.{Kept}
 use Rattle.trail.specs.Numbers.{groups, bytes_if}
-use Rattle.trail.specs.Records.{marked, marks_by, word_changed, word_place, word_value}
+use Rattle.trail.specs.Records.{Word, marked, marks_by, word_changed, word_place, word_value}
 
 -- By which of A, X and Y changed, and their old value.
 abbrev pub one_change : Bool → Bool → Bool → ℕ → ℕ → Bool → Bool → Word → OldValues
@@ -34,7 +32,7 @@ pub data Register : ℕ → Type 0 where
 
 -- One register changed, and no word.
 abbrev pub register_changed : ℕ → ℕ → Bool → Bool → ℕ → OldValues
-register_changed w p b stop old = one_change (eqb w 1) (eqb w 2) (eqb w 4) old p b stop Kept
+register_changed w p b stop old = one_change (eqb w 1) (eqb w 2) (eqb w 4) old p b stop None
 
 -- A record, by the bytes before L.
 abbrev pub closed : List ℕ → List ℕ

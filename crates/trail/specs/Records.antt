@@ -1,7 +1,7 @@
 -- Document 01, "The trail": a record's bytes, the old values that an operation puts into one, and what putting them back gives.
 -- Assumes nothing.
-use Rattle.std.specs.Prelude.{ℕ, ◌+◌, ◌-◌, ◌*◌, ◌/◌, ◌%◌, ◌^◌, ◌<◌, Bool, true, false, not, cond, List, [], ◌∷◌, ◌++◌, ltb, eqb, length, take, drop}
-use Rattle.std.proofs.Math.Option.{Option, none, some}
+use Rattle.std.specs.Prelude.{ℕ, ◌+◌, ◌-◌, ◌*◌, ◌/◌, ◌%◌, ◌^◌, ◌<◌, Bool, true, false, not, cond, List, [], ◌∷◌, ◌++◌, ltb, eqb, length, take, drop, Option, Some, None, Result, Ok, Err, is_some}
+use Rattle.std.proofs.Math.Option.{Option as Maybe, none, some}
 use Rattle.report.specs.AnnexA.{Mem, BV}
 use Rattle.report.specs.Section3.{State}
 use Rattle.report.specs.Parts.{Where, word_at, with_word}
@@ -12,10 +12,8 @@ use Rattle.machine.specs.declared.Place.TheVariants.{Main, Port}
 use Rattle.trail.specs.declared.OldValues.{OldValues}
 use Rattle.trail.specs.declared.Kind.{Kind}
 use Rattle.trail.specs.declared.Kind.TheVariants.{FromOld, Step, Reset, Force, Set}
-use Rattle.trail.specs.declared.Word.{Word}
-use Rattle.trail.specs.declared.Word.TheVariants.{Kept, Changed}
-use Rattle.trail.specs.declared.Added.{Added}
-use Rattle.trail.specs.declared.Added.TheVariants.{Used, Full}
+use Rattle.trail.specs.declared.OldWord.{OldWord}
+use Rattle.trail.specs.declared.TrailFull.{TrailFull}
 use Rattle.trail.specs.Numbers.{groups, bytes_if, GoodIf}
 
 -- ---- the bytes of a record
@@ -85,22 +83,25 @@ where_of_number n = cond (ltb n (2 ^ 20)) (false, n) (true, n - 2 ^ 20)
 abbrev pub differs : ℕ → ℕ → Bool
 differs old new = not (eqb old new)
 
+-- The word that changed, if one did.
+abbrev pub Word : Type 0
+Word = Option OldWord
+
 abbrev pub word_changed : Word → Bool
-word_changed Kept = false
-word_changed (Changed q v) = true
+word_changed w = is_some w
 
 abbrev pub word_place : Word → ℕ
-word_place Kept = 0
-word_place (Changed q v) = place_number q
+word_place None = 0
+word_place (Some w) = place_number w.place
 
 abbrev pub word_value : Word → ℕ
-word_value Kept = 0
-word_value (Changed q v) = v
+word_value None = 0
+word_value (Some w) = w.value
 
 -- The address of a word that changed is below 2^20.
 abbrev pub Addressed : Word → Type 0
-Addressed Kept = Unit {0}
-Addressed (Changed q v) = (where_of q).1 < 2 ^ 20
+Addressed None = Unit {0}
+Addressed (Some w) = (where_of w.place).1 < 2 ^ 20
 
 -- The marks, by what changed and by the old flags.
 abbrev pub marks_by : Bool → Bool → Bool → Bool → Bool → Bool → ℕ
@@ -129,15 +130,15 @@ old_values k old new w =
 
 -- ---- the record of an operation, from the state before it, the state after it and the place that it may have changed
 
-abbrev pub changed_word : Mem → Mem → Option Where → Word
-changed_word old new none = Kept
+abbrev pub changed_word : Mem → Mem → Maybe Where → Word
+changed_word old new none = None
 changed_word old new (some q) =
-    cond (eqb (word_at old q) (word_at new q)) Kept (Changed (place_of q) (word_at old q))
+    cond (eqb (word_at old q) (word_at new q)) None (Some (record { place = place_of q; value = word_at old q }))
 
-abbrev pub old_values_of : Kind → State → State → Option Where → OldValues
+abbrev pub old_values_of : Kind → State → State → Maybe Where → OldValues
 old_values_of k old new q = old_values k (machine_of old) (machine_of new) (changed_word old.0 new.0 q)
 
-abbrev pub record_of : Kind → State → State → Option Where → List ℕ
+abbrev pub record_of : Kind → State → State → Maybe Where → List ℕ
 record_of k old new q = record_bytes (old_values_of k old new q)
 
 -- ---- the old values put back: what is not marked stays
@@ -159,6 +160,10 @@ restored o (ram, p, a, x, y, b, stop) = (
 abbrev pub put : List ℕ → ℕ → List ℕ → List ℕ
 put trail used r = take used trail ++ (r ++ drop (used + length r) trail)
 
--- The answer, and the trail after it: Full if r is longer than the free bytes.
-unfoldable pub added : List ℕ → ℕ → List ℕ → Added × List ℕ
-added trail used r = cond (ltb (length trail - used) (length r)) (Full, trail) (Used (used + length r), put trail used r)
+abbrev pub trail_full : TrailFull
+trail_full = record {}
+
+-- The answer, the count of bytes in use now, and the trail after it: an error if r is longer than the free bytes.
+unfoldable pub added : List ℕ → ℕ → List ℕ → Result ℕ TrailFull × List ℕ
+added trail used r =
+    cond (ltb (length trail - used) (length r)) (Err trail_full, trail) (Ok (used + length r), put trail used r)

@@ -7,17 +7,17 @@ pub mod numbers;
 pub mod records;
 
 // Who made a record (document 02, W12): its kind, the record's first number.
-#[derive(Clone, Copy)]
+#[derive(Clone, Copy, Debug, PartialEq, Eq)]
 pub enum Kind {
-    FromOld,
-    Step,
-    Reset,
-    Force,
-    Set,
+    FromOld = 0,
+    Step = 1,
+    Reset = 2,
+    Force = 3,
+    Set = 4,
 }
 
 // What a record holds: its kind, the marks, and the old values. What is not marked is 0.
-#[derive(Clone, Copy)]
+#[derive(Clone, Copy, Debug, PartialEq, Eq)]
 pub struct OldValues {
     pub kind: u32,
     pub marks: u32,
@@ -29,26 +29,27 @@ pub struct OldValues {
     pub value: u32,
 }
 
-// The word that an operation changed, if it changed one: its place and its old value.
-#[derive(Clone, Copy)]
-pub enum Word {
-    Kept,
-    Changed(Place, u32),
+// A word that an operation changed: its place and its old value.
+#[derive(Clone, Copy, Debug, PartialEq, Eq)]
+pub struct OldWord {
+    pub place: Place,
+    pub value: u32,
 }
 
-// What became of a record: it was added, with the count of bytes in use now, or it is longer than the free bytes.
-#[derive(Clone, Copy)]
-pub enum Added {
-    Used(usize),
-    Full,
+// A record is longer than the free bytes.
+#[derive(Clone, Copy, Debug, PartialEq, Eq)]
+pub struct TrailFull;
+
+// The newest record: its old values and the count of bytes in use once it is gone.
+#[derive(Clone, Copy, Debug, PartialEq, Eq)]
+pub struct Newest {
+    pub values: OldValues,
+    pub left: usize,
 }
 
-// The newest record: its old values and the count of bytes in use once it is gone, or it is broken.
-#[derive(Clone, Copy)]
-pub enum Newest {
-    Record(OldValues, usize),
-    Broken,
-}
+// What is read is no record, or no number of one.
+#[derive(Clone, Copy, Debug, PartialEq, Eq)]
+pub struct Broken;
 
 // The number that port 0 has as a place; a main address is its own number.
 pub const FIRST_PORT: u32 = 1_048_576;

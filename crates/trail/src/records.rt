@@ -1,14 +1,13 @@
 // A record of old values, made whole and then added to the trail (document 01, "The trail").
-ghost use Rattle.std.specs.Prelude.{◌≡◌, cond, ◌*◌, ◌^◌, ◌<◌, ◌≤◌, ◌∷◌, ◌++◌, length, take};
+ghost use Rattle.std.specs.Prelude.{◌≡◌, cond, ◌*◌, ◌^◌, ◌<◌, ◌≤◌, ◌∷◌, ◌++◌, length, take, Some, None};
 ghost use Rattle.report.specs.AnnexA.{BV};
 ghost use Rattle.machine.specs.Held.{where_of};
 ghost use Rattle.trail.specs.Numbers.{groups, Put};
 ghost use Rattle.trail.specs.OneChange.{closed, nine, one_value, registers_kept, register_changed, Register};
-ghost use Rattle.trail.specs.declared.Word.TheVariants.{Kept, Changed};
-ghost use Rattle.trail.specs.Records.{Addressed, Good, added, body, kind_number, old_values, place_number, record_bytes, word_changed, word_place, word_value};
+ghost use Rattle.trail.specs.Records.{Addressed, Good, added, body, kind_number, old_values, place_number, record_bytes, word_place, word_value};
 
 use crate::numbers::{group, put_if, put_number};
-use crate::{Added, FIRST_PORT, Kind, OldValues, Word};
+use crate::{FIRST_PORT, Kind, OldValues, OldWord, TrailFull};
 use machine::{Machine, Place};
 
 // A record, made whole before room is judged: the first `len` bytes of `bytes`.
@@ -32,16 +31,6 @@ fn value_if(marked: bool, v: u32) -> u32
     if marked { v } else { 0 }
 }
 
-// Whether a word changed, its place's number and its old value: 0 where none did.
-fn word_changed(word: Word) -> bool
-    ensures { result ≡ word_changed word }
-{
-    match word {
-        Word::Kept => false,
-        Word::Changed(_, _) => true,
-    }
-}
-
 // The number of a place: its address, plus 1,048,576 for ports.
 fn place_number(place: Place) -> u32
     requires { (where_of place).1 < 2 ^ 20 }
@@ -53,22 +42,23 @@ fn place_number(place: Place) -> u32
     }
 }
 
-fn word_place(word: Word) -> u32
+// The number of the place of a word that changed, and its old value; 0 where none did.
+fn word_place(word: Option<OldWord>) -> u32
     requires { Addressed word }
     ensures { result ≡ word_place word }
 {
     match word {
-        Word::Kept => 0,
-        Word::Changed(q, _) => place_number(q),
+        None => 0,
+        Some(w) => place_number(w.place),
     }
 }
 
-fn word_value(word: Word) -> u32
+fn word_value(word: Option<OldWord>) -> u32
     ensures { result ≡ word_value word }
 {
     match word {
-        Word::Kept => 0,
-        Word::Changed(_, v) => v,
+        None => 0,
+        Some(w) => w.value,
     }
 }
 
@@ -76,17 +66,11 @@ fn word_value(word: Word) -> u32
 fn kind_number(kind: Kind) -> u32
     ensures { result ≡ kind_number kind }
 {
-    match kind {
-        Kind::FromOld => 0,
-        Kind::Step => 1,
-        Kind::Reset => 2,
-        Kind::Force => 3,
-        Kind::Set => 4,
-    }
+    kind as u32
 }
 
 // What an operation's record holds, by its kind, the machine before it, the machine after it and the word that it changed.
-pub fn old_values(kind: Kind, old: Machine, new: Machine, word: Word) -> OldValues
+pub fn old_values(kind: Kind, old: Machine, new: Machine, word: Option<OldWord>) -> OldValues
     requires { Addressed word }
     ensures { result ≡ old_values kind old new word }
 {
@@ -95,7 +79,7 @@ pub fn old_values(kind: Kind, old: Machine, new: Machine, word: Word) -> OldValu
         marks: weight(old.a != new.a, 1)
             + weight(old.x != new.x, 2)
             + weight(old.y != new.y, 4)
-            + weight(word_changed(word), 8)
+            + weight(word.is_some(), 8)
             + weight(old.b, 16)
             + weight(old.stop, 32),
         p: old.p,
@@ -126,24 +110,24 @@ fn fill(bytes: &mut [u8; 28], o: OldValues) -> usize
 }
 
 // Copies a record right after the bytes in use. It is the only function that writes a byte of the trail.
-fn copy(trail: &mut [u8], used: usize, bytes: &[u8; 28], n: usize) -> Added
+fn copy(trail: &mut [u8], used: usize, bytes: &[u8; 28], n: usize) -> Result<usize, TrailFull>
     requires { (used ≤ length trail.old) × (n ≤ 28) × (length bytes.now ≡ 28) }
     ensures { (result, trail.new) ≡ added trail.old used (take n bytes.now) }
 {
     if trail.len() - used < n {
-        return Added::Full;
+        return Err(TrailFull);
     }
     let mut i = 0;
     while i < n {
         trail[used + i] = bytes[i];
         i += 1;
     }
-    Added::Used(used + n)
+    Ok(used + n)
 }
 
 // Adds the record of old values whose bytes before L are at most 27: only a word beside all three registers, each with its longest number, has
 // one more, and no operation changes those.
-pub fn add(trail: &mut [u8], used: usize, o: OldValues) -> Added
+pub fn add(trail: &mut [u8], used: usize, o: OldValues) -> Result<usize, TrailFull>
     requires { (used ≤ length trail.old) × Good (2 ^ 21) o × (length (body o) ≤ 27) }
     ensures { (result, trail.new) ≡ added trail.old used (record_bytes o) }
 {
@@ -172,7 +156,7 @@ fn add_short(
     b6: u8,
     b7: u8,
     b8: u8,
-) -> Added
+) -> Result<usize, TrailFull>
     requires { (used ≤ length trail.old) × (len ≤ 10) }
     ensures { (result, trail.new) ≡ added trail.old used (take len (nine b0 b1 b2 b3 b4 b5 b6 b7 b8)) }
 {
@@ -204,7 +188,7 @@ fn fill_marks_and_p(bytes: &mut [u8; 28], marks: u32, p: u32) -> usize
 }
 
 // Adds a record with no value: the marks and P. A call of `add` in its place made every step five instructions longer.
-fn add_marks_and_p(trail: &mut [u8], used: usize, marks: u32, p: u32) -> Added
+fn add_marks_and_p(trail: &mut [u8], used: usize, marks: u32, p: u32) -> Result<usize, TrailFull>
     requires { (used ≤ length trail.old) × (marks < 64) × (p < 2 ^ 20) }
     ensures { (result, trail.new) ≡ added trail.old used (closed (1 ∷ (marks ∷ groups p))) }
 {
@@ -217,9 +201,15 @@ fn add_marks_and_p(trail: &mut [u8], used: usize, marks: u32, p: u32) -> Added
 }
 
 // Adds the record of an operation that changed no register and no word.
-pub fn add_flags(trail: &mut [u8], used: usize, p: u32, b: bool, stop: bool) -> Added
+pub fn add_flags(
+    trail: &mut [u8],
+    used: usize,
+    p: u32,
+    b: bool,
+    stop: bool,
+) -> Result<usize, TrailFull>
     requires { (used ≤ length trail.old) × (p < 2 ^ 20) }
-    ensures { (result, trail.new) ≡ added trail.old used (record_bytes (registers_kept p b stop Kept)) }
+    ensures { (result, trail.new) ≡ added trail.old used (record_bytes (registers_kept p b stop None)) }
 {
     let marks = weight(b, 16) + weight(stop, 32);
     if p < 128 {
@@ -259,7 +249,14 @@ fn fill_value(bytes: &mut [u8; 28], marks: u32, p: u32, place: u32, v: u32) -> u
 }
 
 // Adds a record with one value: the marks, P, the word's place if one is marked, and the value.
-fn add_value(trail: &mut [u8], used: usize, marks: u32, p: u32, place: u32, v: u32) -> Added
+fn add_value(
+    trail: &mut [u8],
+    used: usize,
+    marks: u32,
+    p: u32,
+    place: u32,
+    v: u32,
+) -> Result<usize, TrailFull>
     requires { (used ≤ length trail.old) × (marks < 64) × (p < 2 ^ 20) × (place < 2 ^ 21) }
     ensures { (result, trail.new) ≡ added trail.old used (one_value marks p place v) }
 {
@@ -273,7 +270,13 @@ fn add_value(trail: &mut [u8], used: usize, marks: u32, p: u32, place: u32, v: u
 
 // Adds a record of the marks, a P of one byte and a value: n bytes hold what is below the n-th power of 128. The low groups are written out for
 // each length: held in a local, they made a step up to three instructions longer.
-fn add_with_p_of_one_byte(trail: &mut [u8], used: usize, marks: u8, p: u8, v: u32) -> Added
+fn add_with_p_of_one_byte(
+    trail: &mut [u8],
+    used: usize,
+    marks: u8,
+    p: u8,
+    v: u32,
+) -> Result<usize, TrailFull>
     requires { (used ≤ length trail.old) × (p < 128) }
     ensures { (result, trail.new) ≡ added trail.old used (closed (1 ∷ (marks ∷ (groups p ++ groups v)))) }
 {
@@ -348,7 +351,13 @@ fn add_with_p_of_one_byte(trail: &mut [u8], used: usize, marks: u8, p: u8, v: u3
 }
 
 // The same with a P of two bytes.
-fn add_with_p_of_two_bytes(trail: &mut [u8], used: usize, marks: u8, p: u32, v: u32) -> Added
+fn add_with_p_of_two_bytes(
+    trail: &mut [u8],
+    used: usize,
+    marks: u8,
+    p: u32,
+    v: u32,
+) -> Result<usize, TrailFull>
     requires { (used ≤ length trail.old) × (128 ≤ p) × (p < 16384) }
     ensures { (result, trail.new) ≡ added trail.old used (closed (1 ∷ (marks ∷ (groups p ++ groups v)))) }
 {
@@ -444,7 +453,7 @@ pub fn add_register(
     b: bool,
     stop: bool,
     old: u32,
-) -> Added
+) -> Result<usize, TrailFull>
     requires { (used ≤ length trail.old) × (p < 2 ^ 20) × Register w }
     ensures { (result, trail.new) ≡ added trail.old used (record_bytes (register_changed w p b stop old)) }
 {
@@ -467,9 +476,9 @@ pub fn add_word(
     stop: bool,
     place: Place,
     old: u32,
-) -> Added
+) -> Result<usize, TrailFull>
     requires { (used ≤ length trail.old) × (p < 2 ^ 20) × ((where_of place).1 < 2 ^ 20) }
-    ensures { (result, trail.new) ≡ added trail.old used (record_bytes (registers_kept p b stop (Changed place old))) }
+    ensures { (result, trail.new) ≡ added trail.old used (record_bytes (registers_kept p b stop (Some (record { place = place; value = old })))) }
 {
     add_value(
         trail,

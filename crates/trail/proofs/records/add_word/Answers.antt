@@ -3,7 +3,7 @@
 use Prim.Native.Nat.{◌^◌, ◌<◌}
 use mathlib.Core.Path.{ap, ◌∙◌}
 use native.Mathlib.Omega.{arith}
-use Rattle.trail.specs.declared.Word.TheVariants.{Changed}
+use Rattle.std.specs.Prelude.{Some}
 use Rattle.trail.specs.Records.{added, place_number}
 use Rattle.trail.proofs.Marks.{good_place}
 use Rattle.trail.proofs.ShortRecords.{as_word}
@@ -14,7 +14,7 @@ add_value-requires c =
     let a = c.args in
     let k = c.weight.ensures in
     let l = c.weight-2.ensures in
-    let q : place_number a.place < 2 ^ 21 = good_place (Changed a.place a.old) c.requires.2 in
+    let q : place_number a.place < 2 ^ 21 = good_place (Some (record { place = a.place; value = a.old })) c.requires.2 in
     (omega arith, omega (arith, k, l), omega arith, omega (arith, c.place_number.ensures))
 
 pub returns : goal.returns

@@ -15,7 +15,7 @@ returns c =
       c.weight-2.ensures.0,
       c.weight-3.ensures.0,
       c.weight-4.ensures.0,
-      c.word_changed.ensures,
+      c.is_some.ensures,
       c.weight-5.ensures.0,
       c.weight-6.ensures.0,
       c.value_if.ensures,

@@ -3,4 +3,4 @@
 use Rattle.trail.proofs.records.word_place.Goals as goal
 
 pub place_number-requires : goal.place_number-requires
-place_number-requires c = rw c.in-Changed.is at c.requires
+place_number-requires c = rw c.in-Some.is at c.requires
