@@ -2,3 +2,4 @@ pub mod Table
 pub mod Decision
 pub mod Sources
 pub mod Destinations
+pub mod FieldsOf

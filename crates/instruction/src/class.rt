@@ -70,18 +70,23 @@ pub const CLASSES: [u8; 1024] = [
     0, 0, 0, 0, 0, 0, 0, 0, 0, 0, 0, 0, 0, 0, 0, 0, // msf 3, dsf 7, csf 1: fsf 0 to 15
 ];
 
-// The table, to be copied once and lent.
-pub fn class_table() -> [u8; 1024]
-    ensures { Classified result }
-{
-    CLASSES
+// The table of the classes, made once and lent.
+#[derive(Clone, Copy, Debug, PartialEq, Eq)]
+pub struct ClassTable {
+    entries: [u8; 1024],
+    ghost classified: { Classified entries },
 }
 
-// The class of a word.
-pub fn class_of(table: &[u8; 1024], w: u32) -> u8
-    requires { Classified table.now }
-    ensures { result ≡ class_of_word w }
-{
-    let k = (w / 0x10_0000 % 1024) as usize;
-    table[k]
+impl ClassTable {
+    pub fn new() -> ClassTable {
+        ClassTable { entries: CLASSES }
+    }
+
+    // The class of a word.
+    pub fn class_of(&self, w: u32) -> u8
+        ensures { result ≡ class_of_word w }
+    {
+        let k = (w / 0x10_0000 % 1024) as usize;
+        self.entries[k]
+    }
 }

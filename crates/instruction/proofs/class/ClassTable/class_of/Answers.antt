@@ -1,7 +1,7 @@
 -- The table holds the class of every number of bits 29-20, and the word's number is of its fields.
 use Rattle.std.proofs.Common.{◌≡◌, ◌/◌, ◌%◌, ◌^◌, arith}
 use Rattle.report.specs.Parts.{msf, dsf, csf, fsf}
-use Rattle.instruction.proofs.class.class_of.Goals as goal
+use Rattle.instruction.proofs.class.ClassTable.class_of.Goals as goal
 
 pub returns : goal.returns
 returns c =
@@ -11,4 +11,4 @@ returns c =
     let d : k / 32 % 8 ≡ dsf w = omega arith in
     let s : k / 16 % 2 ≡ csf w = omega arith in
     let f : k % 16 ≡ fsf w = omega arith in
-    rw (m, d, s, f) at (c.requires.entry k (omega arith))
+    rw (m, d, s, f) at (c.args.self.now.classified.entry k (omega arith))
