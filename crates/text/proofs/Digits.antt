@@ -60,6 +60,10 @@ decimal_length (suc k) n h = go (ltb n 10) refl (decimal_length k (n / 10))
 pub twenty_digits : (n : ℕ) → n < 2 ^ 64 → length (decimal n) ≤ 20
 twenty_digits n h = decimal_length 19 n (omega arith)
 
+-- So those of its tenth leave room for one more among twenty.
+pub one_more_fits : (n : ℕ) → 10 ≤ n → n < 2 ^ 64 → length (decimal (n / 10)) + 1 ≤ 20
+one_more_fits n g h = rw (← decimal_longer n g) (twenty_digits n h)
+
 pub hex_length : (width n : ℕ) → length (hex width n) ≡ width
 unfolding hex
 hex_length zero n = refl
