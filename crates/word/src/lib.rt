@@ -9,7 +9,7 @@ ghost use Rattle.std.specs.Int.{w32};
 ghost use Rattle.std.proofs.Common.{of_z};
 
 // What an addition or a subtraction delivers: the word, carry or borrow, and signed overflow.
-#[derive(Clone, Copy)]
+#[derive(Clone, Copy, Debug, PartialEq, Eq)]
 pub struct Sum {
     pub value: u32,
     pub carry: bool,
@@ -17,7 +17,7 @@ pub struct Sum {
 }
 
 // What the ALU delivers: the word, the new B, and whether it stops the machine.
-#[derive(Clone, Copy)]
+#[derive(Clone, Copy, Debug, PartialEq, Eq)]
 pub struct AluResult {
     pub value: u32,
     pub b: bool,
@@ -28,33 +28,21 @@ pub struct AluResult {
 pub fn signed(r: u32) -> i64
     ensures { result ≡ signed_of r }
 {
-    if r < 0x8000_0000 {
-        r as i64
-    } else {
-        (r as i64) - 0x1_0000_0000
-    }
+    i64::from(signed_word(r))
 }
 
 // The signed number of a word, at the width of a word.
 pub fn signed_word(r: u32) -> i32
     ensures { result ≡ signed_of r }
 {
-    if r < 0x8000_0000 {
-        r as i32
-    } else {
-        (r - 0x8000_0000) as i32 + (-2147483648)
-    }
+    r.cast_signed()
 }
 
 // The word that stands for a signed number.
 pub fn word_of(s: i32) -> u32
     ensures { result ≡ of_z w32 s }
 {
-    if s < 0 {
-        ((s as i64) + 0x1_0000_0000) as u32
-    } else {
-        s as u32
-    }
+    s.cast_unsigned()
 }
 
 // Signed less-than.
@@ -68,7 +56,7 @@ pub fn less(r: u32, m: u32) -> bool
 pub fn add(r: u32, m: u32) -> Sum
     ensures { sum_triple result ≡ ADD32 (r, m) }
 {
-    let value = std::num::wrapping_add_u32(r, m);
+    let value = r.wrapping_add(m);
     let s = signed(r) + signed(m);
     Sum {
         value,
@@ -81,7 +69,7 @@ pub fn add(r: u32, m: u32) -> Sum
 pub fn subtract(r: u32, m: u32) -> Sum
     ensures { sum_triple result ≡ SUB32 (r, m) }
 {
-    let value = std::num::wrapping_sub_u32(r, m);
+    let value = r.wrapping_sub(m);
     let d = signed(r) - signed(m);
     Sum {
         value,

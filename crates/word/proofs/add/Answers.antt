@@ -10,8 +10,8 @@ overflow_add-s c =
 
 pub returns : goal.returns
 returns c =
-    let v = c.wrapping_add_u32-value in
-    let value : v.result ≡ (c.args.r + c.args.m) % 2 ^ 32 = v.ensures.value in
-    let carry : ltb v.result c.args.r ≡ leb (2 ^ 32) (c.args.r + c.args.m) = same_test v.result c.args.r (2 ^ 32) (c.args.r + c.args.m) (omega arith) (omega arith) in
-    let over = sum_back c.signed.result c.signed-2.result c.args.r c.args.m c.signed.ensures c.signed-2.ensures c.ranges.r.fits c.ranges.m.fits in
-    rw (add_is c.args.r c.args.m c.ranges.r.fits c.ranges.m.fits, over, carry, value)
+    let r = c.args.r in
+    let m = c.args.m in
+    let carry : ltb ((r + m) % 2 ^ 32) r ≡ leb (2 ^ 32) (r + m) = same_test _ r (2 ^ 32) (r + m) (omega arith) (omega arith) in
+    let over = sum_back c.signed.result c.signed-2.result r m c.signed.ensures c.signed-2.ensures c.ranges.r.fits c.ranges.m.fits in
+    rw (add_is r m c.ranges.r.fits c.ranges.m.fits, over, carry)
