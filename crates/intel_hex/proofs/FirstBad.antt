@@ -6,13 +6,13 @@ use mathlib.Core.Bool.{Bool, true, false, cond}
 use mathlib.Core.List.{List, []}
 use native.Mathlib.Omega.{arith}
 use lib.Dec.{eqb}
+use Rattle.std.specs.Prelude.{Ok}
 use lib.ListN.{length, drop, length-drop}
 use borrow.Author.Tests.{eqb-false}
 use Rattle.intel_hex.specs.Lines.{size_of, line_of}
 use Rattle.intel_hex.specs.Imported.{named, turn_of, Text, good, bad, after_line, text_of, verdict}
 use Rattle.intel_hex.specs.declared.importing.Turn.{Turn}
 use Rattle.intel_hex.specs.declared.importing.Turn.TheVariants.{On, Ended, Bad}
-use Rattle.intel_hex.specs.declared.importing.Verdict.TheVariants.{Good}
 use Rattle.intel_hex.proofs.Bytes.{clash}
 use Rattle.intel_hex.proofs.Texts.{on_within, size_some, text_bad, ended_more, text_ended, text_on, not_good}
 
@@ -68,11 +68,11 @@ pub bad_is_bad_at : (room base : ℕ) (t : List ℕ) (n : ℕ) → text_of room 
 bad_is_bad_at room base t n e = found (suc (length t)) room base t n (omega arith) e
 
 -- A good text has no bad line.
-pub good_has_none : {room base n : ℕ} {t : List ℕ} → verdict (text_of room base t) ≡ Good → BadAt room base t n → ⊥
+pub good_has_none : {room base n : ℕ} {t : List ℕ} → verdict (text_of room base t) ≡ Ok tt → BadAt room base t n → ⊥
 good_has_none v b = not_good (bad_at_is_bad b) v
 
 -- A text that is not good has a first bad line.
-pub not_good_has_one : (room base : ℕ) (t : List ℕ) → (verdict (text_of room base t) ≡ Good → ⊥) → (n : ℕ) × BadAt room base t n
+pub not_good_has_one : (room base : ℕ) (t : List ℕ) → (verdict (text_of room base t) ≡ Ok tt → ⊥) → (n : ℕ) × BadAt room base t n
 not_good_has_one room base t g = go (text_of room base t) refl
   where
     go : (x : Text) → text_of room base t ≡ x → (n : ℕ) × BadAt room base t n

@@ -7,6 +7,7 @@ use mathlib.Core.Bool.{Bool, true, false, ◌||◌}
 use mathlib.Core.List.{List, [], ◌∷◌, ◌++◌, append_assoc, append-nil}
 use native.Mathlib.Omega.{arith}
 use native.Mathlib.Nat.{add-zero}
+use Rattle.std.specs.Prelude.{Ok}
 use lib.Dec.{leb, eqb}
 use lib.ListN.{length, take, drop, set, length-append, drop_of_length-le}
 use lib.Seq.{drop-drop, get_or-drop, set-append_seam, append_snoc}
@@ -20,7 +21,6 @@ use Rattle.intel_hex.specs.Returns.{first_choice, other_choices, with_returns}
 use Rattle.intel_hex.specs.declared.lines.Span.{Span}
 use Rattle.intel_hex.specs.declared.lines.Line.TheVariants.{Data, Upper, End}
 use Rattle.intel_hex.specs.declared.importing.Turn.TheVariants.{On, Ended}
-use Rattle.intel_hex.specs.declared.importing.Imported.TheVariants.{Accepted}
 use Rattle.intel_hex.proofs.Lengths.{pairs_append, data_length, count_small, count_left, row_words_length, no_upper, one_upper, no_upper_within}
 use Rattle.intel_hex.proofs.ReadBack.{byte_again, sum_of, signs, signs_with_returns, size_again, rest_again, line_again, word_again}
 use Rattle.intel_hex.proofs.Returns.{feed, feed_size}
@@ -245,8 +245,8 @@ pub import_of_export : (choices : List Bool) (main other : List ℕ)
     → length main ≤ length other
     → length other ≤ 1048576
     → in_range main
-    → (import_answer (length other) (with_returns choices (exported main)) ≡ Accepted)
-    × (main_after Accepted (with_returns choices (exported main)) other ≡ main ++ drop (length main) other)
+    → (import_answer (length other) (with_returns choices (exported main)) ≡ Ok 0)
+    × (main_after (Ok 0) (with_returns choices (exported main)) other ≡ main ++ drop (length main) other)
 unfolding import_answer
 import_of_export choices main other g h r =
     let x = export_good (length other) main (omega arith) g r choices in
@@ -257,8 +257,8 @@ pub round_trip : (choices : List Bool) (main other : List ℕ)
     → length other ≡ length main
     → length main ≤ 1048576
     → in_range main
-    → (import_answer (length other) (with_returns choices (exported main)) ≡ Accepted)
-    × (main_after Accepted (with_returns choices (exported main)) other ≡ main)
+    → (import_answer (length other) (with_returns choices (exported main)) ≡ Ok 0)
+    × (main_after (Ok 0) (with_returns choices (exported main)) other ≡ main)
 round_trip choices main other e h r =
     let i = import_of_export choices main other (omega arith) (omega arith) r in
     (i.0, i.1 ∙ rw (drop_of_length-le other {i = length main} (omega arith), append-nil))

@@ -5,6 +5,7 @@ use mathlib.Core.Path.{◌≡◌, refl, ap, sym, ◌∙◌}
 use mathlib.Core.Bool.{Bool, true, false, cond, ◌&&◌}
 use mathlib.Core.List.{List, [], ◌∷◌, ◌++◌}
 use native.Mathlib.Omega.{arith}
+use Rattle.std.specs.Prelude.{Result, Ok, Err}
 use lib.Dec.{leb, ltb, eqb}
 use lib.ListN.{length, get_or, drop, set, length-drop}
 use lib.Seq.{drop-drop}
@@ -17,8 +18,7 @@ use Rattle.intel_hex.specs.declared.lines.Line.{Line}
 use Rattle.intel_hex.specs.declared.lines.Line.TheVariants.{Data, Upper, End, IllFormed}
 use Rattle.intel_hex.specs.declared.importing.Turn.{Turn}
 use Rattle.intel_hex.specs.declared.importing.Turn.TheVariants.{On, Ended, Bad}
-use Rattle.intel_hex.specs.declared.importing.Verdict.{Verdict}
-use Rattle.intel_hex.specs.declared.importing.Verdict.TheVariants.{Good, BadLine}
+use Rattle.intel_hex.specs.declared.importing.BadLine.{BadLine}
 use Rattle.intel_hex.proofs.Bytes.{clash, and_true, each_byte, bytes_after, bytes_before, byte_within, ending_within, summed_none}
 
 module _ (room base : ℕ) (s : Span) where
@@ -220,20 +220,23 @@ pub turned : (room base : ℕ) (s : List ℕ) {r : ℕ} {l : Line} {turn which :
 turned room base s m e f g = cc
 
 -- A verdict on lines that come after k others.
-abbrev pub after_lines : ℕ → Verdict → Verdict
-after_lines k Good = Good
-after_lines k (BadLine n) = BadLine (k + n)
+abbrev pub after_lines : ℕ → Result Unit BadLine → Result Unit BadLine
+after_lines k (Ok u) = Ok u
+after_lines k (Err line) = Err (record { 0 = k + line.0 })
 
-pub after_none : (v : Verdict) → v ≡ after_lines 0 v
-after_none Good = refl
-after_none (BadLine n) = ap BadLine (omega arith)
+bad_line_at : {m n : ℕ} → m ≡ n → ◌≡◌ {A = Result Unit BadLine} (Err (record { 0 = m })) (Err (record { 0 = n }))
+bad_line_at e = rw e
+
+pub after_none : (v : Result Unit BadLine) → v ≡ after_lines 0 v
+after_none (Ok u) = refl
+after_none (Err line) = bad_line_at (omega arith)
 
 pub after_one : (k : ℕ) (ws : List (ℕ × ℕ)) (x : Text) → after_lines k (verdict (after_line ws x)) ≡ after_lines (k + 1) (verdict x)
 after_one k ws (good more) = refl
-after_one k ws (bad n) = ap BadLine (omega arith)
+after_one k ws (bad n) = bad_line_at (omega arith)
 
-pub good_after : (ws : List (ℕ × ℕ)) (x : Text) → verdict (after_line ws x) ≡ Good
-    → (verdict x ≡ Good) × (words_in (after_line ws x) ≡ ws ++ words_in x)
+pub good_after : (ws : List (ℕ × ℕ)) (x : Text) → verdict (after_line ws x) ≡ Ok tt
+    → (verdict x ≡ Ok tt) × (words_in (after_line ws x) ≡ ws ++ words_in x)
 good_after ws (good more) e = (refl, refl)
 good_after ws (bad n) e = clash (cc)
 
@@ -327,13 +330,15 @@ module _ {l : Line} {s : Span} (e : l ≡ Data s) where
   pub named_there : (text : List ℕ) (at base : ℕ) → named base l (drop at text) ≡ words_from s.words (base + s.first) (drop (at + 9) text)
   named_there text at base = rw (e, drop-drop 9 at text)
 
-pub not_good : {A : Type 0} {x : Text} {n : ℕ} → x ≡ bad n → verdict x ≡ Good → A
+pub not_good : {A : Type 0} {x : Text} {n : ℕ} → x ≡ bad n → verdict x ≡ Ok tt → A
 not_good {A} {x} {n} e f =
-    let g : BadLine n ≡ Good = rw e at f in
-    clash (cc)
+    not_both (rw e at f)
+  where
+    not_both : verdict (bad n) ≡ Ok tt → A
+    not_both g = clash (cc)
 
 -- The first line of a good text is what its type says.
-pub good_line : (room base : ℕ) (t : List ℕ) → verdict (text_of room base t) ≡ Good → layout_of t ≡ line_of t
+pub good_line : (room base : ℕ) (t : List ℕ) → verdict (text_of room base t) ≡ Ok tt → layout_of t ≡ line_of t
 unfolding line_of
 good_line room base t v = go (well_formed t) refl
   where
@@ -346,8 +351,8 @@ good_line room base t v = go (well_formed t) refl
 -- A good text goes on good after a good line, and its words are stored after the line's.
 pub stored_on : (room base : ℕ) {b : ℕ} (t main : List ℕ)
     → turn_of room base (line_of t) ≡ On b
-    → verdict (text_of room base t) ≡ Good
-    → (verdict (text_of room b (drop (size_of t) t)) ≡ Good)
+    → verdict (text_of room base t) ≡ Ok tt
+    → (verdict (text_of room b (drop (size_of t) t)) ≡ Ok tt)
     × (stored (words_in (text_of room base t)) main ≡ stored (words_in (text_of room b (drop (size_of t) t))) (stored (named base (line_of t) t) main))
 stored_on room base {b} t main e v =
     let ws = named base (line_of t) t in

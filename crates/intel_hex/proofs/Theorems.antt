@@ -6,6 +6,7 @@ use mathlib.Core.Path.{◌≡◌, refl, ap, sym, ◌∙◌}
 use mathlib.Core.Bool.{Bool, true, false, cond, ◌||◌}
 use mathlib.Core.List.{List, [], ◌∷◌, ◌++◌}
 use native.Mathlib.Omega.{arith}
+use Rattle.std.specs.Prelude.{Result, Ok, Err}
 use lib.Dec.{eqb, ltb}
 use lib.ListN.{length, get_or, take, drop, set, length-set, length-drop}
 use lib.Seq.{take_at, get_or-set_same, get_or-set_other}
@@ -14,13 +15,11 @@ use Rattle.intel_hex.specs.Exported.{exported, exported_length, export_answer, o
 use Rattle.intel_hex.specs.Lines.{size_of, line_of}
 use Rattle.intel_hex.specs.declared.importing.Turn.{Turn}
 use Rattle.intel_hex.specs.declared.importing.Turn.TheVariants.{On, Ended, Bad}
-use Rattle.intel_hex.specs.Imported.{named, turn_of, Text, good, bad, after_line, text_in, text_of, stored, verdict, answer, import_answer, Imports}
+use Rattle.intel_hex.specs.Imported.{named, turn_of, Text, good, bad, after_line, text_in, text_of, stored, verdict, answer, import_answer, used_after, Imports}
 use Rattle.intel_hex.specs.Returns.{with_returns}
-use Rattle.intel_hex.specs.declared.exporting.Exported.{Exported}
-use Rattle.intel_hex.specs.declared.exporting.Exported.TheVariants.{Written, OutTooShort, MainTooLong as ExportTooLong}
-use Rattle.intel_hex.specs.declared.importing.Import.{Import}
-use Rattle.intel_hex.specs.declared.importing.Imported.{Imported}
-use Rattle.intel_hex.specs.declared.importing.Imported.TheVariants.{Accepted, MainTooLong, BadText}
+use Rattle.intel_hex.specs.declared.exporting.ExportRefusal.{ExportRefusal}
+use Rattle.intel_hex.specs.declared.importing.ImportRefusal.{ImportRefusal}
+use Rattle.intel_hex.specs.declared.importing.ImportRefusal.TheVariants.{MainTooLong, BadText}
 use Rattle.intel_hex.proofs.Bytes.{clash}
 use Rattle.intel_hex.proofs.FirstBad.{BadAt, bad_at_is_bad, bad_is_bad_at}
 use Rattle.intel_hex.proofs.Lengths.{exported_length_is}
@@ -30,14 +29,14 @@ use Rattle.intel_hex.proofs.Returns.{none_put}
 use Rattle.intel_hex.proofs.RoundTrip.{round_trip}
 
 -- An accepted export wrote the export of main, and main is not too long.
-pub export_accepted : {main out after : List ℕ} {n : ℕ} → Exports main out (Written n) after
+pub export_accepted : {main out after : List ℕ} {n : ℕ} → Exports main out (Ok n) after
     → (take n after ≡ exported main) × (length main ≤ 1048576)
 unfolding export_answer
 export_accepted {main} {out} {after} {n} e =
     go (ltb 1048576 (length main)) (ltb (length out) (exported_length (length main))) refl refl e.answer_is e.out_is
   where
     go : (s t : Bool) → ltb 1048576 (length main) ≡ s → ltb (length out) (exported_length (length main)) ≡ t
-        → Written n ≡ export_answer (length main) (length out)
+        → Ok n ≡ export_answer (length main) (length out)
         → after ≡ out_after (export_answer (length main) (length out)) main out
         → (take n after ≡ exported main) × (length main ≤ 1048576)
     go true t p q a o =
@@ -47,7 +46,7 @@ export_accepted {main} {out} {after} {n} e =
         let b = rw (p, q) at a in
         clash (cc b)
     go false false p q a o =
-        let b : Written n ≡ Written (exported_length (length main)) = rw (p, q) at a in
+        let b : Ok n ≡ Ok (exported_length (length main)) = rw (p, q) at a in
         let m : n ≡ exported_length (length main) = cc in
         let o' : after ≡ exported main ++ drop (exported_length (length main)) out = rw (p, q) at o in (
           rw (o', m) (take_at (exported main) (drop (exported_length (length main)) out) (exported_length (length main)) (exported_length_is main)),
@@ -56,78 +55,61 @@ export_accepted {main} {out} {after} {n} e =
 
 -- What was exported, with whatever carriage returns before its line feeds, imported into as long a main, gives the same words, whatever
 -- that main held; history starts again.
-pub exported_then_imported_with_returns : (choices : List Bool) {main out after other other' : List ℕ} {n used : ℕ} {r : Import}
-    → Exports main out (Written n) after
-    → Imports other used (with_returns choices (take n after)) r other'
+pub exported_then_imported_with_returns : (choices : List Bool) {main out after other other' : List ℕ} {n : ℕ} {r : Result ℕ ImportRefusal}
+    → Exports main out (Ok n) after
+    → Imports other (with_returns choices (take n after)) r other'
     → length other ≡ length main
     → in_range main
-    → (r.answer ≡ Accepted) × (r.used ≡ 0) × (other' ≡ main)
-exported_then_imported_with_returns choices {main} {out} {after} {other} {other'} {n} {used} {r} e i l w =
+    → (r ≡ Ok 0) × (other' ≡ main)
+exported_then_imported_with_returns choices {main} {out} {after} {other} {other'} {n} {r} e i l w =
     let x = export_accepted e in
     let t = round_trip choices main other l x.1 w in
-    let a : import_answer (length other) (with_returns choices (take n after)) ≡ Accepted = rw x.0 t.0 in
-    (i.answer_is ∙ a, i.used_is ∙ rw a, i.main_is ∙ rw (a, x.0) t.1)
+    let a : import_answer (length other) (with_returns choices (take n after)) ≡ Ok 0 = rw x.0 t.0 in
+    (i.answer_is ∙ a, i.main_is ∙ rw (a, x.0) t.1)
 
-pub exported_then_imported : {main out after other other' : List ℕ} {n used : ℕ} {r : Import}
-    → Exports main out (Written n) after
-    → Imports other used (take n after) r other'
+pub exported_then_imported : {main out after other other' : List ℕ} {n : ℕ} {r : Result ℕ ImportRefusal}
+    → Exports main out (Ok n) after
+    → Imports other (take n after) r other'
     → length other ≡ length main
     → in_range main
-    → (r.answer ≡ Accepted) × (r.used ≡ 0) × (other' ≡ main)
-exported_then_imported {main} {out} {after} {other} {other'} {n} {used} {r} e i l w =
-    let j : Imports other used (with_returns [] (take n after)) r other' = rw (none_put (take n after)) i in
+    → (r ≡ Ok 0) × (other' ≡ main)
+exported_then_imported {main} {out} {after} {other} {other'} {n} {r} e i l w =
+    let j : Imports other (with_returns [] (take n after)) r other' = rw (none_put (take n after)) i in
     exported_then_imported_with_returns [] e j l w
 
 -- The contract of an import leaves one outcome, and so does that of an export.
-pub import_unique : {main text after after' : List ℕ} {used : ℕ} {r r' : Import}
-    → Imports main used text r after
-    → Imports main used text r' after'
+pub import_unique : {main text after after' : List ℕ} {r r' : Result ℕ ImportRefusal}
+    → Imports main text r after
+    → Imports main text r' after'
     → (r ≡ r') × (after ≡ after')
-import_unique {r = r} {r' = r'} i j =
-    (same_import r r' (i.answer_is ∙ sym j.answer_is) (i.used_is ∙ sym j.used_is), i.main_is ∙ sym j.main_is)
-  where
-    same_import : (r r' : Import) → r.answer ≡ r'.answer → r.used ≡ r'.used → r ≡ r'
-    same_import r r' p q =
-        let made : Imported → ℕ → Import = λ a u. record { answer = a; used = u } in
-        ap (λ (a : Imported). made a r.used) p ∙ ap (λ (u : ℕ). made r'.answer u) q
+import_unique i j = (i.answer_is ∙ sym j.answer_is, i.main_is ∙ sym j.main_is)
 
-pub export_unique : {main out after after' : List ℕ} {r r' : Exported}
+pub export_unique : {main out after after' : List ℕ} {r r' : Result ℕ ExportRefusal}
     → Exports main out r after
     → Exports main out r' after'
     → (r ≡ r') × (after ≡ after')
 export_unique e f = (e.answer_is ∙ sym f.answer_is, e.out_is ∙ sym f.out_is)
 
-pub refused_writes_nothing : {main out after : List ℕ} {r : Exported} → Exports main out r after → ((n : ℕ) → r ≡ Written n → ⊥) → after ≡ out
-refused_writes_nothing {main} {out} {after} {r} i g = go r refl
-  where
-    go : (a : Exported) → r ≡ a → after ≡ out
-    go (Written n) e = absurd (g n e)
-    go ExportTooLong e =
-        let a = sym i.answer_is ∙ e in
-        i.out_is ∙ rw a
-    go OutTooShort e =
-        let a = sym i.answer_is ∙ e in
-        i.out_is ∙ rw a
+pub refused_writes_nothing : {main out after : List ℕ} {refusal : ExportRefusal} → Exports main out (Err refusal) after → after ≡ out
+refused_writes_nothing i =
+    let a = sym i.answer_is in
+    i.out_is ∙ rw a
 
-pub refused_changes_nothing : {main text after : List ℕ} {used : ℕ} {r : Import}
-    → Imports main used text r after
-    → (r.answer ≡ Accepted → ⊥)
-    → (after ≡ main) × (r.used ≡ used)
-refused_changes_nothing {main} {text} {after} {used} {r} i g = go r.answer refl
-  where
-    go : (a : Imported) → r.answer ≡ a → (after ≡ main) × (r.used ≡ used)
-    go Accepted e = absurd (g e)
-    go MainTooLong e =
-        let a = sym i.answer_is ∙ e in
-        (i.main_is ∙ rw a, i.used_is ∙ rw a)
-    go (BadText n) e =
-        let a = sym i.answer_is ∙ e in
-        (i.main_is ∙ rw a, i.used_is ∙ rw a)
+pub refused_changes_nothing : {main text after : List ℕ} {used : ℕ} {refusal : ImportRefusal}
+    → Imports main text (Err refusal) after
+    → (after ≡ main) × (used_after (Err refusal) used ≡ used)
+refused_changes_nothing i =
+    let a = sym i.answer_is in
+    (i.main_is ∙ rw a, refl)
 
-pub accepted_starts_again : {main text after : List ℕ} {used : ℕ} {r : Import} → Imports main used text r after → r.answer ≡ Accepted → r.used ≡ 0
-accepted_starts_again i e =
-    let a = sym i.answer_is ∙ e in
-    i.used_is ∙ rw a
+pub accepted_starts_again : {main text after : List ℕ} {count : ℕ} → Imports main text (Ok count) after → count ≡ 0
+unfolding import_answer
+accepted_starts_again {main} {text} {after} {count} i = go (ltb 1048576 (length main)) (text_of (length main) 0 text) i.answer_is
+  where
+    go : (long : Bool) (x : Text) → Ok count ≡ cond long (Err MainTooLong) (answer (verdict x)) → count ≡ 0
+    go true x e = clash (cc)
+    go false (good words) e = cc
+    go false (bad n) e = clash (cc)
 
 -- Whether a word is named.
 abbrev pub names : ℕ → List (ℕ × ℕ) → Bool
@@ -192,24 +174,24 @@ unfolding text_of
 bad_line_bound room base t n e = bad_in (suc (length t)) room base t n (omega arith) e
 
 -- Refusal 12 carries the first bad line.
-pub refused_at_first_bad_line : {main text after : List ℕ} {used n : ℕ} {r : Import}
-    → Imports main used text r after
-    → r.answer ≡ BadText n
+pub refused_at_first_bad_line : {main text after : List ℕ} {n : ℕ} {r : Result ℕ ImportRefusal}
+    → Imports main text r after
+    → r ≡ Err (BadText n)
     → BadAt (length main) 0 text n
 unfolding import_answer
 refused_at_first_bad_line {main} {text} {n = n} i e = go (ltb 1048576 (length main)) (text_of (length main) 0 text) refl (sym i.answer_is ∙ e)
   where
-    go : (long : Bool) (x : Text) → text_of (length main) 0 text ≡ x → cond long MainTooLong (answer (verdict x)) ≡ BadText n → BadAt (length main) 0 text n
+    go : (long : Bool) (x : Text) → text_of (length main) 0 text ≡ x → cond long (Err MainTooLong) (answer (verdict x)) ≡ Err (BadText n) → BadAt (length main) 0 text n
     go true x p q = clash (cc)
     go false (good words) p q = clash (cc)
     go false (bad m) p q =
         let same : bad m ≡ bad n = cc in
         bad_is_bad_at (length main) 0 text n (p ∙ same)
 
-pub first_bad_line_refused : {main text after : List ℕ} {used n : ℕ} {r : Import}
-    → Imports main used text r after
+pub first_bad_line_refused : {main text after : List ℕ} {n : ℕ} {r : Result ℕ ImportRefusal}
+    → Imports main text r after
     → length main ≤ 1048576
     → BadAt (length main) 0 text n
-    → r.answer ≡ BadText n
+    → r ≡ Err (BadText n)
 unfolding import_answer
 first_bad_line_refused {main} i h b = i.answer_is ∙ rw (le-ltb 1048576 (length main) h, bad_at_is_bad b)

@@ -5,6 +5,7 @@ use mathlib.Core.Path.{◌≡◌, refl, ap, ◌∙◌}
 use mathlib.Core.Bool.{Bool, true, false, cond}
 use mathlib.Core.List.{List, [], ◌∷◌, ◌++◌}
 use native.Mathlib.Omega.{arith}
+use Rattle.std.specs.Prelude.{Result, Ok, Err}
 use lib.Dec.{eqb}
 use lib.ListN.{length, get_or, drop, set, length-set}
 use Rattle.intel_hex.specs.Lines.{bytes, all_bytes, size_of, line_of}
@@ -13,9 +14,7 @@ use Rattle.intel_hex.specs.declared.lines.Line.{Line}
 use Rattle.intel_hex.specs.declared.lines.Line.TheVariants.{Data, Upper, End, IllFormed}
 use Rattle.intel_hex.specs.declared.importing.Turn.{Turn}
 use Rattle.intel_hex.specs.declared.importing.Turn.TheVariants.{On, Ended, Bad}
-use Rattle.intel_hex.specs.declared.importing.Imported.{Imported}
-use Rattle.intel_hex.specs.declared.importing.Imported.TheVariants.{Accepted, MainTooLong, BadText}
-use Rattle.intel_hex.specs.declared.importing.Import.{Import}
+use Rattle.intel_hex.specs.declared.importing.ImportRefusal.{ImportRefusal}
 use Rattle.intel_hex.proofs.Bytes.{each_byte}
 use Rattle.intel_hex.proofs.Texts.{bytes_of_word, bytes_of_rest, data_bytes_there}
 
@@ -102,20 +101,18 @@ stored_length [] main = refl
 stored_length (w ∷ words) main = stored_length words (set main w.0 w.1) ∙ length-set main w.0 w.1
 
 -- Whatever an import answers, main's words are of 32 bits after it if they were before it.
-pub after_in_range : (answer : Imported) (text main : List ℕ) → in_range main → in_range (main_after answer text main)
-after_in_range Accepted text main p = stored_in_range main text p
-after_in_range MainTooLong text main p = p
-after_in_range (BadText n) text main p = p
+pub after_in_range : (answer : Result ℕ ImportRefusal) (text main : List ℕ) → in_range main → in_range (main_after answer text main)
+after_in_range (Ok count) text main p = stored_in_range main text p
+after_in_range (Err refusal) text main p = p
 
 -- And main is as long as it was.
-pub after_length : (answer : Imported) (text main : List ℕ) → length (main_after answer text main) ≡ length main
-after_length Accepted text main = stored_length (words_in (text_of (length main) 0 text)) main
-after_length MainTooLong text main = refl
-after_length (BadText n) text main = refl
+pub after_length : (answer : Result ℕ ImportRefusal) (text main : List ℕ) → length (main_after answer text main) ≡ length main
+after_length (Ok count) text main = stored_length (words_in (text_of (length main) 0 text)) main
+after_length (Err refusal) text main = refl
 
 -- The same of the call.
-pub imported_in_range : {main text after : List ℕ} {used : ℕ} {r : Import} → Imports main used text r after → in_range main → in_range after
+pub imported_in_range : {main text after : List ℕ} {r : Result ℕ ImportRefusal} → Imports main text r after → in_range main → in_range after
 imported_in_range {main} {text} i p = rw i.main_is (after_in_range (import_answer (length main) text) text main p)
 
-pub imported_length : {main text after : List ℕ} {used : ℕ} {r : Import} → Imports main used text r after → length after ≡ length main
+pub imported_length : {main text after : List ℕ} {r : Result ℕ ImportRefusal} → Imports main text r after → length after ≡ length main
 imported_length {main} {text} i = ap length i.main_is ∙ after_length (import_answer (length main) text) text main

@@ -1,9 +1,9 @@
 -- The export of main (document 02, W4): sixteen data bytes a record, a type 04 record at the start and at each 64 KiB, one end record.
 -- Assumes nothing.
-use Rattle.std.specs.Prelude.{ℕ, zero, suc, ◌+◌, ◌*◌, ◌-◌, ◌/◌, ◌%◌, ◌≡◌, cond, ◌&&◌, List, [], ◌∷◌, ◌++◌, ltb, eqb, length, take, drop}
+use Rattle.std.specs.Prelude.{ℕ, zero, suc, ◌+◌, ◌*◌, ◌-◌, ◌/◌, ◌%◌, ◌≡◌, cond, ◌&&◌, List, [], ◌∷◌, ◌++◌, ltb, eqb, length, take, drop, Result, Ok, Err}
 use Rattle.intel_hex.specs.Layout.{record_line, data_bytes}
-use Rattle.intel_hex.specs.declared.exporting.Exported.{Exported}
-use Rattle.intel_hex.specs.declared.exporting.Exported.TheVariants.{Written, MainTooLong, OutTooShort}
+use Rattle.intel_hex.specs.declared.exporting.ExportRefusal.{ExportRefusal}
+use Rattle.intel_hex.specs.declared.exporting.ExportRefusal.TheVariants.{MainTooLong, OutTooShort}
 
 -- The upper half of the addresses that follow.
 unfoldable pub upper_line : ℕ → List ℕ
@@ -44,19 +44,18 @@ unfoldable pub exported_length : ℕ → ℕ
 exported_length n = 12 + 16 * blocks n + 12 * ((n + 3) / 4) + 8 * n
 
 -- The answer for a main of n words and an output of so many bytes: refusals 2 and 9, in this order.
-unfoldable pub export_answer : ℕ → ℕ → Exported
+unfoldable pub export_answer : ℕ → ℕ → Result ℕ ExportRefusal
 export_answer n room =
-    cond (ltb 1048576 n) MainTooLong
-    (cond (ltb room (exported_length n)) OutTooShort
-    (Written (exported_length n)))
+    cond (ltb 1048576 n) (Err MainTooLong)
+    (cond (ltb room (exported_length n)) (Err OutTooShort)
+    (Ok (exported_length n)))
 
 -- A refused export writes no byte, and bytes past an export stay.
-abbrev pub out_after : Exported → List ℕ → List ℕ → List ℕ
-out_after MainTooLong main out = out
-out_after OutTooShort main out = out
-out_after (Written n) main out = exported main ++ drop n out
+abbrev pub out_after : Result ℕ ExportRefusal → List ℕ → List ℕ → List ℕ
+out_after (Err refusal) main out = out
+out_after (Ok n) main out = exported main ++ drop n out
 
 -- What exporting main answers, and the output after it.
-pub record Exports (main out : List ℕ) (r : Exported) (after : List ℕ) : Type 0 where
+pub record Exports (main out : List ℕ) (r : Result ℕ ExportRefusal) (after : List ℕ) : Type 0 where
   pub answer_is : r ≡ export_answer (length main) (length out)
   pub out_is : after ≡ out_after (export_answer (length main) (length out)) main out

@@ -1,17 +1,15 @@
 -- The import (document 02, W4): a text judged line by line, the words that it names, and main after it.
 -- Assumes nothing.
-use Rattle.std.specs.Prelude.{ℕ, zero, suc, ◌+◌, ◌*◌, ◌≡◌, Bool, true, cond, ◌||◌, List, [], ◌∷◌, ◌++◌, leb, ltb, eqb, length, drop, set}
+use Rattle.std.specs.Prelude.{ℕ, zero, suc, ◌+◌, ◌*◌, ◌≡◌, Bool, true, cond, ◌||◌, List, [], ◌∷◌, ◌++◌, leb, ltb, eqb, length, drop, set, Result, Ok, Err}
 use Rattle.intel_hex.specs.Digits.{byte}
 use Rattle.intel_hex.specs.Lines.{size_of, line_of}
 use Rattle.intel_hex.specs.declared.lines.Line.{Line}
 use Rattle.intel_hex.specs.declared.lines.Line.TheVariants.{Data, Upper, End, IllFormed}
 use Rattle.intel_hex.specs.declared.importing.Turn.{Turn}
 use Rattle.intel_hex.specs.declared.importing.Turn.TheVariants.{On, Ended, Bad}
-use Rattle.intel_hex.specs.declared.importing.Verdict.{Verdict}
-use Rattle.intel_hex.specs.declared.importing.Verdict.TheVariants.{Good, BadLine}
-use Rattle.intel_hex.specs.declared.importing.Imported.{Imported}
-use Rattle.intel_hex.specs.declared.importing.Imported.TheVariants.{Accepted, MainTooLong, BadText}
-use Rattle.intel_hex.specs.declared.importing.Import.{Import}
+use Rattle.intel_hex.specs.declared.importing.BadLine.{BadLine}
+use Rattle.intel_hex.specs.declared.importing.ImportRefusal.{ImportRefusal}
+use Rattle.intel_hex.specs.declared.importing.ImportRefusal.TheVariants.{MainTooLong, BadText}
 
 -- A word's four bytes, the high one first.
 unfoldable pub word_of : List ℕ → ℕ
@@ -86,32 +84,30 @@ abbrev pub words_in : Text → List (ℕ × ℕ)
 words_in (good words) = words
 words_in (bad n) = []
 
-abbrev pub verdict : Text → Verdict
-verdict (good words) = Good
-verdict (bad n) = BadLine n
+abbrev pub verdict : Text → Result Unit BadLine
+verdict (good words) = Ok tt
+verdict (bad n) = Err (record { 0 = n })
 
-abbrev pub answer : Verdict → Imported
-answer Good = Accepted
-answer (BadLine n) = BadText n
+-- No byte of the trail is in use after a good text.
+abbrev pub answer : Result Unit BadLine → Result ℕ ImportRefusal
+answer (Ok u) = Ok 0
+answer (Err line) = Err (BadText line.0)
 
 -- The answer for a main of `room` words: refusals 2 and 12, in this order.
-unfoldable pub import_answer : ℕ → List ℕ → Imported
-import_answer room text = cond (ltb 1048576 room) MainTooLong (answer (verdict (text_of room 0 text)))
+unfoldable pub import_answer : ℕ → List ℕ → Result ℕ ImportRefusal
+import_answer room text = cond (ltb 1048576 room) (Err MainTooLong) (answer (verdict (text_of room 0 text)))
 
 -- A refused import writes no word.
-abbrev pub main_after : Imported → List ℕ → List ℕ → List ℕ
-main_after Accepted text main = stored (words_in (text_of (length main) 0 text)) main
-main_after MainTooLong text main = main
-main_after (BadText n) text main = main
+abbrev pub main_after : Result ℕ ImportRefusal → List ℕ → List ℕ → List ℕ
+main_after (Ok count) text main = stored (words_in (text_of (length main) 0 text)) main
+main_after (Err refusal) text main = main
 
--- History starts again with an empty trail after an accepted import.
-abbrev pub used_after : Imported → ℕ → ℕ
-used_after Accepted used = 0
-used_after MainTooLong used = used
-used_after (BadText n) used = used
+-- History starts again with an empty trail after an accepted import; a refused one leaves the caller's count.
+abbrev pub used_after : Result ℕ ImportRefusal → ℕ → ℕ
+used_after (Ok count) used = count
+used_after (Err refusal) used = used
 
 -- What importing a text into main answers, and main after it.
-pub record Imports (main : List ℕ) (used : ℕ) (text : List ℕ) (r : Import) (after : List ℕ) : Type 0 where
-  pub answer_is : r.answer ≡ import_answer (length main) text
-  pub used_is : r.used ≡ used_after (import_answer (length main) text) used
+pub record Imports (main text : List ℕ) (r : Result ℕ ImportRefusal) (after : List ℕ) : Type 0 where
+  pub answer_is : r ≡ import_answer (length main) text
   pub main_is : after ≡ main_after (import_answer (length main) text) text main

@@ -8,12 +8,11 @@ ghost use Rattle.text.specs.Placed.{Placed};
 use crate::{KIB_64, MOST};
 use text::{digit_of, put_byte};
 
-// What an export answers: how many bytes it wrote, refusal 2 or refusal 9.
-#[derive(Clone, Copy)]
-pub enum Exported {
-    Written(usize),
-    MainTooLong,
-    OutTooShort,
+// Why an export is refused.
+#[derive(Clone, Copy, Debug, PartialEq, Eq)]
+pub enum ExportRefusal {
+    MainTooLong = 2,
+    OutTooShort = 9,
 }
 
 // Each function that puts something into the output from a place on answers the place after it.
@@ -207,17 +206,17 @@ fn length_of(n: usize) -> usize
     12 + 16 * ((n + 16383) / 16384) + 12 * ((n + 3) / 4) + 8 * n
 }
 
-// Main as Intel HEX, from the start of the output; the bytes past it stay. Refusals 2 and 9 write no byte.
-pub fn export_hex(main: &[u32], out: &mut [u8]) -> Exported
+// Main as Intel HEX, from the start of the output: how many bytes it wrote; those past them stay. A refused export writes no byte.
+pub fn export_hex(main: &[u32], out: &mut [u8]) -> Result<usize, ExportRefusal>
     ensures { Exports main.now out.old result out.new }
 {
     if main.len() > MOST {
-        return Exported::MainTooLong;
+        return Err(ExportRefusal::MainTooLong);
     }
     let length = length_of(main.len());
     if out.len() < length {
-        return Exported::OutTooShort;
+        return Err(ExportRefusal::OutTooShort);
     }
     put_all(out, main);
-    Exported::Written(length)
+    Ok(length)
 }

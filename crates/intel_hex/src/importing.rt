@@ -15,26 +15,26 @@ pub enum Turn {
     Bad,
 }
 
-// Whether a text is good, or its first bad line from 1.
-#[derive(Clone, Copy)]
-pub enum Verdict {
-    Good,
-    BadLine(usize),
-}
+// The first bad line of a text, from 1.
+#[derive(Clone, Copy, Debug, PartialEq, Eq)]
+pub struct BadLine(pub usize);
 
-// What an import answers: refusal 2, or refusal 12 with the first bad line from 1.
-#[derive(Clone, Copy)]
-pub enum Imported {
-    Accepted,
+// Why an import is refused: main is too long, or the text is bad, first at this line from 1.
+#[derive(Clone, Copy, Debug, PartialEq, Eq)]
+pub enum ImportRefusal {
     MainTooLong,
     BadText(usize),
 }
 
-// The answer, and the bytes of the trail in use after it.
-#[derive(Clone, Copy)]
-pub struct Import {
-    pub answer: Imported,
-    pub used: usize,
+impl From<BadLine> for ImportRefusal {
+    ghost use Rattle.std.specs.Prelude.{◌≡◌};
+    ghost use Rattle.intel_hex.specs.declared.importing.ImportRefusal.TheVariants.{BadText};
+
+    ghost from_gives = { λ line e. e ≡ BadText line.0 };
+
+    fn from(line: BadLine) -> ImportRefusal {
+        ImportRefusal::BadText(line.0)
+    }
 }
 
 // Whether main has the words of a data record.
@@ -72,7 +72,7 @@ fn turn_at(room: usize, base: usize, line: Line) -> Turn
 }
 
 // The answer for a main of `room` words.
-fn judge(text: &[u8], room: usize) -> Verdict
+fn judge(text: &[u8], room: usize) -> Result<(), BadLine>
     ensures { result ≡ verdict (text_of room 0 text.now) }
 {
     let mut at: usize = 0;
@@ -81,12 +81,12 @@ fn judge(text: &[u8], room: usize) -> Verdict
     loop {
         let turn = turn_at(room, base, line_at(text, at));
         match turn {
-            Turn::Bad => return Verdict::BadLine(lines + 1),
+            Turn::Bad => return Err(BadLine(lines + 1)),
             Turn::Ended => {
                 if at + size_at(text, at) == text.len() {
-                    return Verdict::Good;
+                    return Ok(());
                 }
-                return Verdict::BadLine(lines + 2);
+                return Err(BadLine(lines + 2));
             }
             Turn::On(start) => base = start,
         }
@@ -144,7 +144,7 @@ fn store_line(main: &mut [u32], base: usize, line: Line, text: &[u8], at: usize)
 
 // The words of a text that is not bad go to main: its lines are well-formed, so they are not summed again.
 fn store(main: &mut [u32], text: &[u8])
-    requires { verdict (text_of (length main.old) 0 text.now) ≡ Verdict.Good }
+    requires { verdict (text_of (length main.old) 0 text.now) ≡ Ok tt }
     ensures { main.new ≡ stored (words_in (text_of (length main.old) 0 text.now)) main.old }
 {
     let mut at: usize = 0;
@@ -164,27 +164,15 @@ fn store(main: &mut [u32], text: &[u8])
     }
 }
 
-// A text's words go to main, the last of a word named twice, and the other words stay; a refused text writes none. `used` is the
-// trail's count in use: 0 after an accepted import, as given after a refused one.
-pub fn import_hex(main: &mut [u32], used: usize, text: &[u8]) -> Import
-    ensures { Imports main.old used text.now result main.new }
+// A text's words go to main, the last of a word named twice, and the other words stay; a refused text writes none. An accepted import
+// answers how many bytes of the trail are in use after it: none. After a refused one they are those that were.
+pub fn import_hex(main: &mut [u32], text: &[u8]) -> Result<usize, ImportRefusal>
+    ensures { Imports main.old text.now result main.new }
 {
     if main.len() > MOST {
-        return Import {
-            answer: Imported::MainTooLong,
-            used: used,
-        };
+        return Err(ImportRefusal::MainTooLong);
     }
-    let judged = judge(text, main.len());
-    if let Verdict::BadLine(line) = judged {
-        return Import {
-            answer: Imported::BadText(line),
-            used: used,
-        };
-    }
+    judge(text, main.len())?;
     store(main, text);
-    Import {
-        answer: Imported::Accepted,
-        used: 0,
-    }
+    Ok(0)
 }

@@ -10,5 +10,5 @@ const MOST: usize = 0x10_0000;
 // 64 KiB, in bytes.
 const KIB_64: usize = 0x1_0000;
 
-pub use exporting::{Exported, export_hex};
-pub use importing::{Import, Imported, import_hex};
+pub use exporting::{ExportRefusal, export_hex};
+pub use importing::{ImportRefusal, import_hex};
