@@ -4,6 +4,7 @@
 use machine::Place;
 
 pub mod numbers;
+pub mod places;
 pub mod records;
 
 // Who made a record (document 02, W12): its kind, the record's first number.

@@ -4,10 +4,11 @@ ghost use Rattle.report.specs.AnnexA.{BV};
 ghost use Rattle.machine.specs.Held.{where_of};
 ghost use Rattle.trail.specs.Numbers.{groups, Put};
 ghost use Rattle.trail.specs.OneChange.{closed, nine, one_value, registers_kept, register_changed, Register};
-ghost use Rattle.trail.specs.Records.{Addressed, Good, added, body, kind_number, old_values, place_number, record_bytes, word_place, word_value};
+ghost use Rattle.trail.specs.Records.{Addressed, Good, added, body, kind_number, old_values, record_bytes, word_place, word_value};
 
 use crate::numbers::{group, put_if, put_number};
-use crate::{FIRST_PORT, Kind, OldValues, OldWord, TrailFull};
+use crate::places::place_number;
+use crate::{Kind, OldValues, OldWord, TrailFull};
 use machine::{Machine, Place};
 
 // A record, made whole before room is judged: the first `len` bytes of `bytes`.
@@ -29,17 +30,6 @@ fn value_if(marked: bool, v: u32) -> u32
     ensures { result ≡ cond marked v 0 }
 {
     if marked { v } else { 0 }
-}
-
-// The number of a place: its address, plus 1,048,576 for ports.
-fn place_number(place: Place) -> u32
-    requires { (where_of place).1 < 2 ^ 20 }
-    ensures { result ≡ place_number place }
-{
-    match place {
-        Place::Main(n) => n.0,
-        Place::Port(n) => n.0 + FIRST_PORT,
-    }
 }
 
 // The number of the place of a word that changed, and its old value; 0 where none did.
