@@ -1,10 +1,9 @@
 -- The names of document 02, W1, in its order: of destinations, functions, shifts, comparisons and registers.
 -- Assumes nothing.
-use Rattle.std.specs.Prelude.{ℕ, ◌-◌, ◌≤◌, ◌≡◌, cond, List, [], ◌∷◌, ◌++◌, leb, eqb, length, get_or, take}
+use Rattle.std.specs.Prelude.{ℕ, ◌-◌, cond, List, [], ◌∷◌, ◌++◌, leb, eqb, get_or}
 use Prim.Native.Char.{code}
 use Prim.Native.String.{String}
 use Rattle.text.specs.Text.{text}
-use Rattle.language.specs.declared.names.Name.{Name}
 
 -- A byte before the first of some texts.
 abbrev pub before_first : ℕ → List (List ℕ) → List (List ℕ)
@@ -48,8 +47,3 @@ comparison_name f =
 -- By rsf: 3 is N, not P.
 unfoldable pub register_name : ℕ → List ℕ
 register_name r = get_or (names "A X Y N") r []
-
--- The code's form of a name: the first bytes of four.
-pub record Named (n : Name) (t : List ℕ) : Type 0 where
-  pub letters : take n.0 n.1 ≡ t
-  pub within : n.0 ≤ length n.1

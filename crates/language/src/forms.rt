@@ -6,7 +6,7 @@ ghost use Rattle.language.specs.Line.{ignoring, function_form, form};
 use instruction::Fields;
 
 // Which fields a word has. A unary function is one of M alone, a binary one of R and M.
-#[derive(Clone, Copy)]
+#[derive(Clone, Copy, Debug, PartialEq, Eq)]
 pub enum Form {
     Word,
     Comparison,
@@ -20,39 +20,31 @@ pub enum Form {
 fn ignoring(bits: u32, form: Form) -> Form
     ensures { result ≡ ignoring bits form }
 {
-    if bits == 0 {
-        return form;
-    }
-    Form::Word
+    if bits == 0 { form } else { Form::Word }
 }
 
 // The form of a word of classes 4 to 9, which have a result for a register or P.
+#[tactic(auto, unfolding(crate::specs::Line::function_form))]
 fn function_form(f: Fields) -> Form
     ensures { result ≡ function_form f }
 {
-    if f.fsf == 12 {
-        return ignoring(f.addr, Form::Shift);
+    match f.fsf {
+        12 => ignoring(f.addr, Form::Shift),
+        0..=3 => ignoring(f.rsf, Form::Unary),
+        _ => Form::Binary,
     }
-    if f.fsf < 4 {
-        return ignoring(f.rsf, Form::Unary);
-    }
-    Form::Binary
 }
 
+#[tactic(auto, using(crate::proofs::ByClass::comparison_form, crate::proofs::ByClass::word_form, crate::proofs::ByClass::write_form, crate::proofs::ByClass::result_form, crate::proofs::ByClass::fielded))]
 pub fn form_of(table: &[u8; 1024], w: u32) -> Form
     requires { Classified table.now }
     ensures { result ≡ form w }
 {
     let f = instruction::take_apart(w);
-    let class = instruction::class_of(table, w);
-    if class == 0 {
-        return ignoring(f.dsf, Form::Comparison);
+    match instruction::class_of(table, w) {
+        0 => ignoring(f.dsf, Form::Comparison),
+        1 => Form::Word,
+        2 | 3 => ignoring(f.fsf, Form::Write),
+        _ => function_form(f),
     }
-    if class == 1 {
-        return Form::Word;
-    }
-    if class < 4 {
-        return ignoring(f.fsf, Form::Write);
-    }
-    function_form(f)
 }

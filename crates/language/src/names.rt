@@ -1,102 +1,66 @@
 // The names of the listing (document 02, W1) as fixed byte strings. A number that has no name gets the empty one.
-ghost use Rattle.std.specs.Prelude.{[]};
-ghost use Rattle.language.specs.Names.{Named, destination_name, function_name, shift_name, comparison_name, register_name};
-
-// A name: how many bytes it has, and these at the start of four.
-#[derive(Clone, Copy)]
-pub struct Name(pub usize, pub [u8; 4]);
-
-fn unnamed() -> Name
-    ensures { Named result [] }
-{
-    Name(0, *b"    ")
-}
+ghost use Rattle.std.specs.Prelude.{◌≡◌, [], map, slice_index_or};
+ghost use Rattle.language.specs.Names.{destination_name, function_name, shift_name, comparison_name, register_name};
 
 // By dsf.
-pub fn destination(dsf: u32) -> Name
-    ensures { Named result (destination_name dsf) }
-{
-    match dsf {
-        0 => Name(1, *b"A   "),
-        1 => Name(1, *b"X   "),
-        2 => Name(1, *b"Y   "),
-        3 => Name(1, *b"P   "),
-        4 => Name(2, *b"PB  "),
-        5 => Name(2, *b"PN  "),
-        6 => Name(2, *b"IO  "),
-        7 => Name(3, *b"MEM "),
-        _ => unnamed(),
-    }
-}
+const DESTINATIONS: [&[u8]; 8] = [b"A", b"X", b"Y", b"P", b"PB", b"PN", b"IO", b"MEM"];
 
 // By fsf.
-pub fn function(fsf: u32) -> Name
-    ensures { Named result (function_name fsf) }
-{
-    match fsf {
-        0 => Name(3, *b"NEG "),
-        1 => Name(4, *b"CALL"),
-        2 => Name(2, *b"IN  "),
-        3 => Name(2, *b"LD  "),
-        4 => Name(3, *b"ADD "),
-        5 => Name(4, *b"ADDS"),
-        6 => Name(3, *b"SUB "),
-        7 => Name(4, *b"SUBS"),
-        8 => Name(3, *b"XOR "),
-        9 => Name(3, *b"AND "),
-        10 => Name(3, *b"NOR "),
-        11 => Name(4, *b"ANDN"),
-        _ => unnamed(),
-    }
-}
+const FUNCTIONS: [&[u8]; 12] = [
+    b"NEG", b"CALL", b"IN", b"LD", b"ADD", b"ADDS", b"SUB", b"SUBS", b"XOR", b"AND", b"NOR",
+    b"ANDN",
+];
 
 // By msf, which is a shift's function.
-pub fn shift(msf: u32) -> Name
-    ensures { Named result (shift_name msf) }
-{
-    match msf {
-        0 => Name(3, *b"ASR "),
-        1 => Name(3, *b"ROR "),
-        2 => Name(4, *b"SHLS"),
-        3 => Name(3, *b"ROL "),
-        _ => unnamed(),
-    }
-}
+const SHIFTS: [&[u8]; 4] = [b"ASR", b"ROR", b"SHLS", b"ROL"];
 
 // By fsf: the comparisons 0 to 7, and the same with B added, ORed.
-pub fn comparison(fsf: u32) -> Name
-    ensures { Named result (comparison_name fsf) }
-{
-    match fsf {
-        0 => Name(2, *b"LT  "),
-        1 => Name(2, *b"GE  "),
-        2 => Name(2, *b"EQ  "),
-        3 => Name(2, *b"NE  "),
-        4 => Name(2, *b"LE  "),
-        5 => Name(2, *b"GT  "),
-        6 => Name(2, *b"BL  "),
-        7 => Name(2, *b"BH  "),
-        8 => Name(3, *b"LTB "),
-        9 => Name(3, *b"GEB "),
-        10 => Name(3, *b"EQB "),
-        11 => Name(3, *b"NEB "),
-        12 => Name(3, *b"LEB "),
-        13 => Name(3, *b"GTB "),
-        14 => Name(3, *b"BLB "),
-        15 => Name(3, *b"BHB "),
-        _ => unnamed(),
-    }
-}
+const COMPARISONS: [&[u8]; 16] = [
+    b"LT", b"GE", b"EQ", b"NE", b"LE", b"GT", b"BL", b"BH", // 0 to 7
+    b"LTB", b"GEB", b"EQB", b"NEB", b"LEB", b"GTB", b"BLB", b"BHB", // 8 to 15
+];
 
 // By rsf. 3 is N, which is P + 1.
-pub fn register(rsf: u32) -> Name
-    ensures { Named result (register_name rsf) }
+const REGISTERS: [&[u8]; 4] = [b"A", b"X", b"Y", b"N"];
+
+// The name that a number has in a table.
+fn named(names: &[&'static [u8]], number: u32) -> &'static [u8]
+    ensures { result.now ≡ slice_index_or (map (λ name. name.now) names.now) number [] }
 {
-    match rsf {
-        0 => Name(1, *b"A   "),
-        1 => Name(1, *b"X   "),
-        2 => Name(1, *b"Y   "),
-        3 => Name(1, *b"N   "),
-        _ => unnamed(),
-    }
+    names.get(number as usize).copied().unwrap_or(b"")
+}
+
+#[tactic(auto, unfolding(crate::specs::Names::split, crate::specs::Names::destination_name))]
+pub fn destination(dsf: u32) -> &'static [u8]
+    ensures { result.now ≡ destination_name dsf }
+{
+    named(&DESTINATIONS, dsf)
+}
+
+#[tactic(auto, unfolding(crate::specs::Names::split, crate::specs::Names::function_name))]
+pub fn function(fsf: u32) -> &'static [u8]
+    ensures { result.now ≡ function_name fsf }
+{
+    named(&FUNCTIONS, fsf)
+}
+
+#[tactic(auto, unfolding(crate::specs::Names::split, crate::specs::Names::shift_name))]
+pub fn shift(msf: u32) -> &'static [u8]
+    ensures { result.now ≡ shift_name msf }
+{
+    named(&SHIFTS, msf)
+}
+
+#[tactic(auto, using(crate::proofs::Naming::comparisons), unfolding(crate::specs::Names::split))]
+pub fn comparison(fsf: u32) -> &'static [u8]
+    ensures { result.now ≡ comparison_name fsf }
+{
+    named(&COMPARISONS, fsf)
+}
+
+#[tactic(auto, unfolding(crate::specs::Names::split, crate::specs::Names::register_name))]
+pub fn register(rsf: u32) -> &'static [u8]
+    ensures { result.now ≡ register_name rsf }
+{
+    named(&REGISTERS, rsf)
 }
