@@ -1,7 +1,7 @@
 -- The form of a word, by its class: what the class table says is what the tests of the definition say, by one computation each over the 1,024 classes.
 -- Assumes nothing.
 use Prim.Native.Nat.{ℕ, ◌≤◌}
-use mathlib.Core.Path.{◌≡◌, refl, ◌∙◌}
+use mathlib.Core.Path.{◌≡◌, refl, ap, sym, ◌∙◌}
 use mathlib.Core.Bool.{Bool, true, false, cond, ◌&&◌}
 use lib.Dec.{eqb, leb}
 use native.Mathlib.Omega.{arith}
@@ -10,11 +10,12 @@ use Rattle.report.specs.Parts as parts
 use Rattle.report.specs.Parts.{of, always_halts, comparison, write}
 use Rattle.report.proofs.Finite.{over}
 use Rattle.instruction.specs.declared.Fields.{Fields}
-use Rattle.instruction.specs.Fields.{Fielded}
+use Rattle.instruction.specs.Fields.{Fielded, fields_of}
 use Rattle.instruction.specs.Classes.{class_by, class_of_word}
+use Rattle.instruction.proofs.FieldsOf.{fields_are}
 use Rattle.language.specs.declared.forms.Form.{Form}
 use Rattle.language.specs.declared.forms.Form.TheVariants.{Word, Comparison, Write}
-use Rattle.language.specs.Line.{fields_of, ignoring, function_form, form}
+use Rattle.language.specs.Line.{ignoring, function_form, form}
 
 -- ---- the tests
 
@@ -77,11 +78,6 @@ module _ (w : ℕ) where
     pub result_form : 4 ≤ class_of_word w → form w ≡ function_form (fields_of w)
     result_form g = by_class w false false false no_halt no_comparison (write_class w some ∙ lt-leb (class_of_word w) 3 g)
 
--- ---- the fields that the code takes out of a word
-
-same_fields : {a b c d e i j k l m : ℕ} → a ≡ i → b ≡ j → c ≡ k → d ≡ l → e ≡ m
-    → ◌≡◌ {A = Fields} (record { rsf = a; msf = b; dsf = c; fsf = d; addr = e }) (record { rsf = i; msf = j; dsf = k; fsf = l; addr = m })
-same_fields p q r s t = rw (p, q, r, s, t)
-
-pub fielded : {w : ℕ} {f : Fields} → Fielded w f → f ≡ fields_of w
-fielded q = same_fields q.of_rsf q.of_msf q.of_dsf q.of_fsf q.of_addr
+-- The same, by the fields that the code takes out of the word.
+pub taken_form : {w : ℕ} {f : Fields} → Fielded w f → 4 ≤ class_of_word w → function_form f ≡ form w
+taken_form {w} q g = ap function_form (fields_are q) ∙ sym (result_form w (omega arith) g)

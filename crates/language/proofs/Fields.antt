@@ -12,12 +12,13 @@ use lib.Seq.{take_at, drop_at}
 use borrow.Author.Tests.{ne_eqb}
 use Rattle.report.specs.Parts as parts
 use Rattle.report.proofs.Finite.{all, below}
+use Rattle.instruction.specs.Fields.{fields_of}
 use Rattle.text.specs.Text.{text}
 use Rattle.text.specs.Digits.{digit, hex}
 use Rattle.language.specs.declared.forms.Form.{Form}
 use Rattle.language.specs.declared.forms.Form.TheVariants.{Word, Comparison, Write, Shift, Unary, Binary}
 use Rattle.language.specs.Names.{split, destination_name, function_name, shift_name, comparison_name, register_name}
-use Rattle.language.specs.Line.{fields_of, operand, fields_by, fields, form, spaced, line}
+use Rattle.language.specs.Line.{operand, fields_by, fields, form, spaced, line}
 
 clash : {A : Type 0} → ◌≡◌ {A = ℕ} 0 1 → A
 clash z = absurd (omega arith)

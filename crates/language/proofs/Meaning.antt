@@ -11,13 +11,14 @@ use lib.ListN.{get_or}
 use borrow.Author.Tests.{eqb-true, ltb-true}
 use Rattle.report.specs.Parts.{Part, halts, compares, writes, skips, computes, part_by, msf, dsf, csf, fsf, of, top, bad, always_halts, comparison, write, shift, skip}
 use Rattle.report.proofs.Finite.{over}
+use Rattle.instruction.specs.Fields.{fields_of}
 use Rattle.instruction.specs.Classes.{class_by, class_of_word}
 use Rattle.instruction.proofs.Decision.{decided, decided_is}
 use Rattle.text.specs.Text.{text}
 use Rattle.language.specs.declared.forms.Form.{Form}
 use Rattle.language.specs.declared.forms.Form.TheVariants.{Word, Comparison, Write, Shift, Unary, Binary}
 use Rattle.language.specs.Names.{split, class_name, destination_name, function_name, shift_name, comparison_name}
-use Rattle.language.specs.Line.{fields_of, fields_by, fields, form}
+use Rattle.language.specs.Line.{fields_by, fields, form}
 use Rattle.language.proofs.ByClass.{comparison_class}
 use Rattle.language.proofs.Shapes.{Told, told}
 use Rattle.language.proofs.Exactly.{is_word, ignored, word_exactly}

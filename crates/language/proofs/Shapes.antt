@@ -9,10 +9,11 @@ use borrow.Author.Tests.{eqb-true, eqb-false, leb-true, leb-false, le-leb}
 use Rattle.report.specs.Parts.{rsf, dsf, csf, fsf, addr}
 use Rattle.report.proofs.Bits.{by_le}
 use Rattle.report.proofs.Finite.{over}
+use Rattle.instruction.specs.Fields.{fields_of}
 use Rattle.instruction.specs.Classes.{class_by, class_of_word}
 use Rattle.language.specs.declared.forms.Form.{Form}
 use Rattle.language.specs.declared.forms.Form.TheVariants.{Word, Comparison, Write, Shift, Unary, Binary}
-use Rattle.language.specs.Line.{fields_of, ignoring, function_form, form}
+use Rattle.language.specs.Line.{ignoring, function_form, form}
 use Rattle.language.proofs.ByClass.{comparison_class, comparison_form, word_form, write_form, result_form}
 
 pub data Nothing : Type 0 where

@@ -10,13 +10,14 @@ use lib.ListN.{length, get_or, take, drop}
 use borrow.Author.Tests.{eq-eqb, le-leb, lt-leb}
 use Rattle.report.specs.Parts as parts
 use Rattle.report.proofs.Finite.{all, below, same}
+use Rattle.instruction.specs.Fields.{fields_of}
 use Rattle.text.specs.Text.{text}
 use Rattle.text.specs.Digits.{hex, number}
 use Rattle.text.proofs.ReadBack.{number_again, same_digits}
 use Rattle.language.specs.declared.forms.Form.{Form}
 use Rattle.language.specs.declared.forms.Form.TheVariants.{Word, Comparison, Write, Shift, Unary, Binary}
 use Rattle.language.specs.Names.{split, destination_name, function_name, shift_name, comparison_name, register_name}
-use Rattle.language.specs.Line.{fields_of, operand, fields_by, fields, form, line}
+use Rattle.language.specs.Line.{operand, fields_by, fields, form, line}
 use Rattle.language.proofs.Shapes.{Told, told}
 use Rattle.language.proofs.Fields.{same_fields}
 

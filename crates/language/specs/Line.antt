@@ -4,6 +4,7 @@ use Rattle.std.specs.Prelude.{ℕ, cond, List, [], ◌∷◌, ◌++◌, leb, eqb
 use Prim.Native.Char.{code}
 use Rattle.report.specs.Parts as parts
 use Rattle.report.specs.Parts.{of, always_halts}
+use Rattle.instruction.specs.Fields.{fields_of}
 use Rattle.instruction.specs.declared.Fields.{Fields}
 use Rattle.text.specs.Text.{text}
 use Rattle.text.specs.Digits.{hex}
@@ -12,10 +13,6 @@ use Rattle.language.specs.declared.forms.Form.{Form}
 use Rattle.language.specs.declared.forms.Form.TheVariants.{Word, Comparison, Write, Shift, Unary, Binary}
 
 -- ---- which fields a word has
-
-abbrev pub fields_of : ℕ → Fields
-fields_of w =
-    record { rsf = parts.rsf w; msf = parts.msf w; dsf = parts.dsf w; fsf = parts.fsf w; addr = parts.addr w }
 
 -- A form in which some bits are ignored is only for words where these are zero.
 abbrev pub ignoring : ℕ → Form → Form

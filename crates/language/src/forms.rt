@@ -1,9 +1,8 @@
 // Which fields the line of a word has (document 02, W1).
 ghost use Rattle.std.specs.Prelude.{◌≡◌};
-ghost use Rattle.instruction.specs.Classes.{Classified};
 ghost use Rattle.language.specs.Line.{ignoring, function_form, form};
 
-use instruction::Fields;
+use instruction::{ClassTable, Fields};
 
 // Which fields a word has. A unary function is one of M alone, a binary one of R and M.
 #[derive(Clone, Copy, Debug, PartialEq, Eq)]
@@ -35,13 +34,12 @@ fn function_form(f: Fields) -> Form
     }
 }
 
-#[tactic(auto, using(crate::proofs::ByClass::comparison_form, crate::proofs::ByClass::word_form, crate::proofs::ByClass::write_form, crate::proofs::ByClass::result_form, crate::proofs::ByClass::fielded))]
-pub fn form_of(table: &[u8; 1024], w: u32) -> Form
-    requires { Classified table.now }
+#[tactic(auto, using(crate::proofs::ByClass::comparison_form, crate::proofs::ByClass::word_form, crate::proofs::ByClass::write_form, crate::proofs::ByClass::taken_form))]
+pub fn form_of(table: &ClassTable, w: u32) -> Form
     ensures { result ≡ form w }
 {
-    let f = instruction::take_apart(w);
-    match instruction::class_of(table, w) {
+    let f = Fields::of_word(w);
+    match table.class_of(w) {
         0 => ignoring(f.dsf, Form::Comparison),
         1 => Form::Word,
         2 | 3 => ignoring(f.fsf, Form::Write),
