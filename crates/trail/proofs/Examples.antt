@@ -3,6 +3,7 @@
 use Prim.Native.Nat.{ℕ, ◌+◌, ◌-◌, ◌^◌}
 use mathlib.Core.Path.{◌≡◌, refl}
 use mathlib.Core.List.{List, [], ◌∷◌, ◌++◌}
+use Rattle.trail.specs.declared.Kind.TheVariants.{Step, Set}
 use Rattle.trail.specs.declared.OldValues.{OldValues}
 use Rattle.trail.specs.Numbers.{groups_in, groups, broken, read_in}
 use Rattle.trail.specs.Records.{record_bytes, record_in}
@@ -29,7 +30,7 @@ group_too_many = refl
 -- ---- the trail of the counter program's example
 
 abbrev old : ℕ → ℕ → ℕ → ℕ → ℕ → OldValues
-old marks p a place value = record { kind = 1; marks = marks; p = p; a = a; x = 0; y = 0; place = place; value = value }
+old marks p a place value = record { kind = Step; marks = marks; p = p; a = a; x = 0; y = 0; place = place; value = value }
 
 abbrev trail : List ℕ
 trail =
@@ -74,7 +75,7 @@ broken_place = refl
 
 -- All registers and a word of port 2.
 all_marked : newest_fitted 8192 256 (0x04 ∷ 0x0F ∷ 0x00 ∷ 0x01 ∷ 0x02 ∷ 0x03 ∷ 0x82 ∷ 0x80 ∷ 0x40 ∷ 0x05 ∷ 0x0A ∷ []) 11
-    ≡ read_back (record { kind = 4; marks = 15; p = 0; a = 1; x = 2; y = 3; place = 2 ^ 20 + 2; value = 5 }) 0
+    ≡ read_back (record { kind = Set; marks = 15; p = 0; a = 1; x = 2; y = 3; place = 2 ^ 20 + 2; value = 5 }) 0
 unfolding newest_fitted newest_in read_in_form
 all_marked = refl
 

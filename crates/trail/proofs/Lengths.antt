@@ -14,7 +14,7 @@ use Rattle.machine.specs.declared.Machine.{Machine}
 use Rattle.trail.specs.declared.OldValues.{OldValues}
 use Rattle.trail.specs.declared.Kind.{Kind}
 use Rattle.trail.specs.Numbers.{groups, bytes_if, GoodIf}
-use Rattle.trail.specs.Records.{Word, marked, body, body_in, record_bytes, Good, GoodIn, differs, word_changed, old_values, record_in}
+use Rattle.trail.specs.Records.{Word, marked, body, body_in, record_bytes, kind_number, Good, GoodIn, differs, word_changed, old_values, record_in}
 use Rattle.trail.specs.OneChange.{closed, one_value}
 use Rattle.trail.proofs.NumbersReadBack.{cap, groups_one, groups_more}
 use Rattle.trail.proofs.Marks.{bit, marks, Sound, old_values_good}
@@ -35,6 +35,9 @@ groups_few (suc k) n h = go (ltb n 128) refl (groups_few k (n / 128))
     go true e ih = rw (groups_one n (ltb-true n 128 e)) (omega arith)
     go false e ih = rw (groups_more n (ltb-false n 128 e)) (omega (arith, ltb-false n 128 e, ih (omega (arith, ltb-false n 128 e))))
 
+pub same_length : {m n : ℕ} → m ≡ n → length (groups m) ≡ length (groups n)
+same_length e = ap (λ (k : ℕ). length (groups k)) e
+
 -- ---- the numbers of a record
 
 if_few : (t : Bool) (k bound n : ℕ) → bound ≤ cap k → GoodIf t bound n → length (bytes_if t n) ≤ (k + 1) * BV t
@@ -43,7 +46,7 @@ if_few false k bound n h g = omega arith
 
 -- The most bytes that each number of a record takes, by the marks.
 pub record Sizes (kinds : Bool) (o : OldValues) : Type 0 where
-  pub kind : length (bytes_if kinds o.kind) ≡ BV kinds
+  pub kind : length (bytes_if kinds (kind_number o.kind)) ≡ BV kinds
   pub kind_bit : BV kinds ≤ 1
   pub marks : length (groups o.marks) ≤ 1
   pub p : length (groups o.p) ≤ 3
@@ -65,7 +68,7 @@ kind_size false k g = refl
 pub sizes : (kinds : Bool) {places : ℕ} {o : OldValues} → places ≤ 2 ^ 21 → GoodIn kinds places o → Sizes kinds o
 sizes kinds {places} {o} h g =
     record {
-      kind = kind_size kinds o.kind g.kind;
+      kind = kind_size kinds (kind_number o.kind) g.kind;
       kind_bit = bit kinds;
       marks = groups_few 0 o.marks (omega (arith, g.marks));
       p = groups_few 2 o.p (omega (arith, g.p));
@@ -94,7 +97,7 @@ body_length_in kinds {places} {o} h g =
 -- The bytes before L are those of the numbers.
 pub body_sum : (o : OldValues) → let m = o.marks in
     length (body o)
-    ≡ length (groups o.kind) + (length (groups m) + (length (groups o.p) + (length (bytes_if (marked 1 m) o.a) + (length (bytes_if (marked 2 m) o.x) + (length (bytes_if (marked 4 m) o.y) + (length (bytes_if (marked 8 m) o.place) + length (bytes_if (marked 8 m) o.value)))))))
+    ≡ length (groups (kind_number o.kind)) + (length (groups m) + (length (groups o.p) + (length (bytes_if (marked 1 m) o.a) + (length (bytes_if (marked 2 m) o.x) + (length (bytes_if (marked 4 m) o.y) + (length (bytes_if (marked 8 m) o.place) + length (bytes_if (marked 8 m) o.value)))))))
 body_sum o = simp length-append refl
 
 pub body_length : {places : ℕ} {o : OldValues} → places ≤ 2 ^ 21 → Good places o → (3 ≤ length (body o)) × (length (body o) ≤ 28)

@@ -5,11 +5,12 @@ use Rattle.std.proofs.Math.Option.{Option, none, some}
 use Rattle.std.proofs.Math.Seq.{slice}
 use Rattle.report.specs.AnnexA.{BV}
 use Rattle.report.specs.Parts.{Where}
+use Rattle.trail.specs.declared.Kind.{Kind}
 use Rattle.trail.specs.declared.OldValues.{OldValues}
 use Rattle.trail.specs.declared.Newest.{Newest}
 use Rattle.trail.specs.declared.Broken.{Broken}
 use Rattle.trail.specs.Numbers.{Read, got, broken, read_below, read_if}
-use Rattle.trail.specs.Records.{marked, where_of_number}
+use Rattle.trail.specs.Records.{marked, where_of_number, kind_of_number}
 
 -- ---- the bytes before L
 
@@ -24,7 +25,7 @@ at_end [] o = some o
 at_end (b ∷ rest) o = none
 
 -- Marks; P; A, X, Y as marked; if marked, the word's place, whose number is below `places`, and its value.
-abbrev pub read_from_marks : ℕ → ℕ → List ℕ → Option OldValues
+abbrev pub read_from_marks : Kind → ℕ → List ℕ → Option OldValues
 read_from_marks kind places s =
     and_then (read_below 64 s) (λ m s₁.
     and_then (read_below (2 ^ 20) s₁) (λ p s₂.
@@ -37,7 +38,7 @@ read_from_marks kind places s =
 
 -- In the new form the kind stands before the marks; in the old one it is 0, and no byte.
 unfoldable pub read_in_form : Bool → ℕ → List ℕ → Option OldValues
-read_in_form kinds places s = and_then (read_if kinds 5 s) (λ kind s₁. read_from_marks kind places s₁)
+read_in_form kinds places s = and_then (read_if kinds 5 s) (λ kind s₁. read_from_marks (kind_of_number kind) places s₁)
 
 abbrev pub read_record : ℕ → List ℕ → Option OldValues
 read_record places s = read_in_form true places s

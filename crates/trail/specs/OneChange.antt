@@ -2,6 +2,7 @@
 -- That they are its `old_values` is in the crate step, proofs/Completing.antt.
 -- Assumes nothing.
 use Rattle.std.specs.Prelude.{ℕ, Bool, false, cond, List, [], ◌∷◌, ◌++◌, eqb, length, replicate, None}
+use Rattle.trail.specs.declared.Kind.TheVariants.{Step}
 use Rattle.trail.specs.declared.OldValues.{OldValues}
 use Rattle.trail.specs.Numbers.{groups, bytes_if}
 use Rattle.trail.specs.Records.{Word, marked, marks_by, word_changed, word_place, word_value}
@@ -10,7 +11,7 @@ use Rattle.trail.specs.Records.{Word, marked, marks_by, word_changed, word_place
 abbrev pub one_change : Bool → Bool → Bool → ℕ → ℕ → Bool → Bool → Word → OldValues
 one_change a x y old p b stop w =
     record {
-      kind = 1;
+      kind = Step;
       marks = marks_by a x y (word_changed w) b stop;
       p = p;
       a = cond a old 0;

@@ -10,11 +10,29 @@ use Rattle.machine.specs.declared.Machine.{Machine}
 use Rattle.machine.specs.declared.Place.{Place}
 use Rattle.machine.specs.declared.Place.TheVariants.{Main, Port}
 use Rattle.trail.specs.declared.OldValues.{OldValues}
+use Rattle.trail.specs.declared.Broken.{Broken}
 use Rattle.trail.specs.declared.Kind.{Kind}
 use Rattle.trail.specs.declared.Kind.TheVariants.{FromOld, Step, Reset, Force, Set}
 use Rattle.trail.specs.declared.OldWord.{OldWord}
 use Rattle.trail.specs.declared.TrailFull.{TrailFull}
 use Rattle.trail.specs.Numbers.{groups, bytes_if, GoodIf}
+
+-- ---- the kinds and their numbers
+
+-- The kinds: 1 step, 2 reset, 3 force, 4 set by hand, 0 for a record from an old trail.
+abbrev pub kind_number : Kind → ℕ
+kind_number FromOld = 0
+kind_number Step = 1
+kind_number Reset = 2
+kind_number Force = 3
+kind_number Set = 4
+
+abbrev pub kind_of_number : ℕ → Kind
+kind_of_number n = cond (eqb n 1) Step (cond (eqb n 2) Reset (cond (eqb n 3) Force (cond (eqb n 4) Set FromOld)))
+
+-- A number that is read is a kind's if it is below 5.
+abbrev pub kind_read : ℕ → Result Kind Broken
+kind_read n = cond (ltb n 5) (Ok (kind_of_number n)) (Err (record {}))
 
 -- ---- the bytes of a record
 
@@ -35,7 +53,7 @@ from_marks o =
 
 -- The bytes before L, in the new form, where the kind stands before the marks, or in the old one (document 02, W12).
 abbrev pub body_in : Bool → OldValues → List ℕ
-body_in kinds o = bytes_if kinds o.kind ++ from_marks o
+body_in kinds o = bytes_if kinds (kind_number o.kind) ++ from_marks o
 
 abbrev pub body : OldValues → List ℕ
 body o = body_in true o
@@ -49,7 +67,7 @@ record_bytes o = record_in true o
 
 -- What a record can hold, with the number of a word's place below `places`. In the old form its kind is read as 0.
 pub record GoodIn (kinds : Bool) (places : ℕ) (o : OldValues) : Type 0 where
-  pub kind : GoodIf kinds 5 o.kind
+  pub kind : GoodIf kinds 5 (kind_number o.kind)
   pub marks : o.marks < 64
   pub p : o.p < 2 ^ 20
   pub a : GoodIf (marked 1 o.marks) (2 ^ 32) o.a
@@ -60,14 +78,6 @@ pub record GoodIn (kinds : Bool) (places : ℕ) (o : OldValues) : Type 0 where
 
 abbrev pub Good : ℕ → OldValues → Type 0
 Good places o = GoodIn true places o
-
--- The kinds: 1 step, 2 reset, 3 force, 4 set by hand, 0 for a record from an old trail.
-abbrev pub kind_number : Kind → ℕ
-kind_number FromOld = 0
-kind_number Step = 1
-kind_number Reset = 2
-kind_number Force = 3
-kind_number Set = 4
 
 -- ---- the number of a word's place: its address, plus 1,048,576 for ports
 
@@ -118,7 +128,7 @@ old_if_changed old new = cond (differs old new) old 0
 unfoldable pub old_values : Kind → Machine → Machine → Word → OldValues
 old_values k old new w =
     record {
-      kind = kind_number k;
+      kind = k;
       marks = marks_of old new w;
       p = old.p;
       a = old_if_changed old.a new.a;

@@ -17,10 +17,31 @@ pub enum Kind {
     Set = 4,
 }
 
+// The kind of a number below 5.
+impl TryFrom<u32> for Kind {
+    ghost use Rattle.std.specs.Prelude.{◌≡◌};
+    ghost use Rattle.trail.specs.Records.{kind_read};
+
+    type Error = Broken;
+
+    ghost try_from_gives = { λ number r. r ≡ kind_read number };
+
+    fn try_from(number: u32) -> Result<Self, Broken> {
+        match number {
+            0 => Ok(Kind::FromOld),
+            1 => Ok(Kind::Step),
+            2 => Ok(Kind::Reset),
+            3 => Ok(Kind::Force),
+            4 => Ok(Kind::Set),
+            _ => Err(Broken),
+        }
+    }
+}
+
 // What a record holds: its kind, the marks, and the old values. What is not marked is 0.
 #[derive(Clone, Copy, Debug, PartialEq, Eq)]
 pub struct OldValues {
-    pub kind: u32,
+    pub kind: Kind,
     pub marks: u32,
     pub p: u32,
     pub a: u32,

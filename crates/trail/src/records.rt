@@ -65,7 +65,7 @@ pub fn old_values(kind: Kind, old: Machine, new: Machine, word: Option<OldWord>)
     ensures { result ≡ old_values kind old new word }
 {
     OldValues {
-        kind: kind_number(kind),
+        kind,
         marks: weight(old.a != new.a, 1)
             + weight(old.x != new.x, 2)
             + weight(old.y != new.y, 4)
@@ -87,7 +87,7 @@ fn fill(bytes: &mut [u8; 28], o: OldValues) -> usize
     ensures { Put 0 (record_bytes o) bytes.old bytes.new result }
 {
     let m = o.marks;
-    let at_marks = put_number(bytes, 0, o.kind);
+    let at_marks = put_number(bytes, 0, kind_number(o.kind));
     let at_p = put_number(bytes, at_marks, m);
     let at_a = put_number(bytes, at_p, o.p);
     let at_x = put_if(m / 1 % 2 == 1, bytes, at_a, o.a);

@@ -10,7 +10,6 @@ pub returns : goal.returns
 unfolding old_values
 returns c =
     rw (
-      c.kind_number.ensures,
       c.weight.ensures.0,
       c.weight-2.ensures.0,
       c.weight-3.ensures.0,
