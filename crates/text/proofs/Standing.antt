@@ -1,45 +1,41 @@
--- A fixed text stands at the start of some bytes exactly if they are it and something after it; and a law for each way that a comparison byte by byte can go on.
+-- A fixed text stands at the start of some bytes exactly if they are it and something after it.
 -- Assumes nothing.
-use Prim.Native.Nat.{ℕ, ◌+◌, ◌≤◌, ◌<◌}
-use mathlib.Core.Path.{◌≡◌, refl, sym}
-use mathlib.Core.Bool.{Bool, true, false}
+use Prim.Native.Nat.{ℕ}
+use mathlib.Core.Path.{◌≡◌, refl, sym, ◌∙◌}
+use mathlib.Core.Bool.{Bool, true, false, ◌&&◌}
 use mathlib.Core.List.{List, [], ◌∷◌, ◌++◌}
 use native.Mathlib.Omega.{arith}
-use native.Mathlib.Numerals.{add-one}
 use lib.Dec.{eqb}
-use lib.ListN.{length, get_or, drop, drop_of_length-le}
-use lib.Seq.{drop-cons}
+use lib.ListN.{length, take, drop}
+use Rattle.std.specs.Cmp.Lexicographic.{pointwise}
 use borrow.Author.Tests.{eq-eqb, ne_eqb, eqb-true}
 use Rattle.text.specs.Stands.{begins}
 
-module _ (fixed bytes : List ℕ) (i at : ℕ) where
-  pub all_compared : length fixed ≤ i → begins (drop i fixed) (drop at bytes) ≡ true
-  unfolding begins
-  all_compared h = rw (drop_of_length-le fixed h)
+clash : {A : Type 0} → ◌≡◌ {A = ℕ} 0 1 → A
+clash z = absurd (omega arith)
 
-  module _ (more : i < length fixed) where
-    pub bytes_end : length bytes ≤ at → begins (drop i fixed) (drop at bytes) ≡ false
-    unfolding begins
-    bytes_end h = rw (drop-cons fixed i 0 more, drop_of_length-le bytes h)
-
-    pub byte_differs : at < length bytes → (get_or bytes at 0 ≡ get_or fixed i 0 → ⊥) → begins (drop i fixed) (drop at bytes) ≡ false
-    unfolding begins
-    byte_differs g h =
-        rw (drop-cons fixed i 0 more, drop-cons bytes at 0 g, ne_eqb (get_or fixed i 0) (get_or bytes at 0) (λ e. h (sym e)))
-
-    pub byte_same : at < length bytes → get_or bytes at 0 ≡ get_or fixed i 0
-        → begins (drop i fixed) (drop at bytes) ≡ begins (drop (i + 1) fixed) (drop (at + 1) bytes)
-    unfolding begins
-    byte_same g h =
-        rw (drop-cons fixed i 0 more, drop-cons bytes at 0 g, eq-eqb (get_or fixed i 0) (get_or bytes at 0) (sym h), add-one, add-one)
+-- `strip_prefix` compares as many of the first bytes with the fixed text.
+pub begins_is : (fixed bytes : List ℕ) → pointwise eqb (take (length fixed) bytes) fixed ≡ begins fixed bytes
+unfolding begins
+begins_is [] bytes = refl
+begins_is (f ∷ fixed) [] = refl
+begins_is (f ∷ fixed) (b ∷ bytes) = go (eqb b f) refl (begins_is fixed bytes)
+  where
+    go : (t : Bool)
+        → eqb b f ≡ t
+        → pointwise eqb (take (length fixed) bytes) fixed ≡ begins fixed bytes
+        → (eqb b f && pointwise eqb (take (length fixed) bytes) fixed) ≡ (eqb f b && begins fixed bytes)
+    go true e rest = rw (e, eq-eqb f b (sym (eqb-true b f e))) rest
+    go false e rest =
+        let other : f ≡ b → ⊥ = λ s.
+        let n : true ≡ false = sym (eq-eqb b f (sym s)) ∙ e in
+        clash (cc) in
+        rw (e, ne_eqb f b other)
 
 pub begins_itself : (fixed rest : List ℕ) → begins fixed (fixed ++ rest) ≡ true
 unfolding begins
 begins_itself [] rest = refl
 begins_itself (f ∷ fixed) rest = rw (eq-eqb f f refl) (begins_itself fixed rest)
-
-clash : {A : Type 0} → ◌≡◌ {A = ℕ} 0 1 → A
-clash z = absurd (omega arith)
 
 pub begins_then : (fixed bytes : List ℕ) → begins fixed bytes ≡ true → bytes ≡ fixed ++ drop (length fixed) bytes
 unfolding begins

@@ -17,12 +17,9 @@ pub fn put_text(out: &mut [u8], at: usize, text: &[u8]) -> usize
     requires { at + length text.now ≤ length out.old }
     ensures { Placed at text.now out.old result out.new }
 {
-    let mut i: usize = 0;
-    while i < text.len() {
-        out[at + i] = text[i];
-        i += 1;
-    }
-    at + i
+    let next = at + text.len();
+    out[at..next].copy_from_slice(text);
+    next
 }
 
 // The digit of a value below 16.
