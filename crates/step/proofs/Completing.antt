@@ -24,23 +24,23 @@ use Rattle.trail.specs.declared.Kind.TheVariants as kind
 use Rattle.trail.specs.Records.{record_bytes, added, old_values}
 use Rattle.trail.specs.OneChange.{registers_kept, register_changed}
 use Rattle.trail.specs.declared.OldValues.{OldValues}
-use Rattle.trail.specs.declared.Added.{Added}
-use Rattle.trail.specs.declared.Added.TheVariants.{Used, Full}
-use Rattle.trail.specs.declared.Word.{Word}
-use Rattle.trail.specs.declared.Word.TheVariants as word
+use Rattle.trail.specs.declared.TrailFull.{TrailFull}
+use Rattle.trail.specs.Records.{Word}
+use Rattle.std.specs.Prelude.{None, Result, Ok, Err, IsErrAnd}
 use Rattle.instruction.specs.Classes.{class_of_word}
+use Rattle.instruction.specs.Fields.{fields_of}
 use Rattle.instruction.specs.declared.Fields.{Fields}
 use Rattle.instruction.proofs.Decision.{decided, decided_is}
 use Rattle.instruction.proofs.Destinations.{write_class, register_class, jump_class, jump_to_p, jump_function}
-use Rattle.step.specs.declared.finish.Stepped.{Stepped}
-use Rattle.step.specs.declared.finish.Stepped.TheVariants as stepped
-use Rattle.step.specs.declared.phases.Fetched.TheVariants as fetch
-use Rattle.step.specs.declared.phases.Operand.{Operand}
-use Rattle.step.specs.declared.phases.Operand.TheVariants as operand
+use Rattle.step.specs.declared.finish.Next.{Next}
+use Rattle.step.specs.declared.finish.Undone.{Undone}
+use Rattle.step.specs.declared.finish.Undone.TheVariants as undone
+use Rattle.step.specs.declared.phases.NoOperand.{NoOperand}
+use Rattle.step.specs.declared.phases.NoOperand.TheVariants as operand
 use Rattle.step.specs.Phases as phases
-use Rattle.step.specs.Phases.{held, Change, alone, fetched, next_p, Decodes, constant_or, operand_of, Held, Unfitted, constant_or_word, write_to, operands_of, delivered, executed}
+use Rattle.step.specs.Phases.{held, Change, alone, word_in, next_p, Decodes, constant_or, operand_of, Held, Unfitted, constant_or_word, write_to, operands_of, delivered, executed}
 use Rattle.step.specs.Finishing as came_case
-use Rattle.step.specs.Finishing.{mark_weight, changed_to, changing, rewritten, Kept, End, ended, ended_by, completed, by_plan, once}
+use Rattle.step.specs.Finishing.{mark_weight, changed_to, changing, rewritten, Kept, came, End, ended, ended_by, completed, by_plan, once}
 use Rattle.step.proofs.Planning.{phases_plan, plan_from, not_fetched}
 use Rattle.step.proofs.Stores.{finish_full, finish_done}
 
@@ -51,7 +51,7 @@ unfolding old_values
 kept_values g p₀ p b₀ b stop w = rw (eq-eqb (get_or g 0 0) (get_or g 0 0) refl, eq-eqb (get_or g 1 0) (get_or g 1 0) refl, eq-eqb (get_or g 2 0) (get_or g 2 0) refl)
 
 pub register_values : (g : List ℕ) (k v p₀ p : ℕ) (b₀ b stop : Bool) → 2 < length g → k < 3 → (get_or g k 0 ≡ v → ⊥)
-    → register_changed (mark_weight k) p₀ b₀ false (get_or g k 0) ≡ old_values kind.Step (held g p₀ b₀ false) (held (set g k v) p b stop) word.Kept
+    → register_changed (mark_weight k) p₀ b₀ false (get_or g k 0) ≡ old_values kind.Step (held g p₀ b₀ false) (held (set g k v) p b stop) None
 unfolding old_values
 register_values g zero v p₀ p b₀ b stop l h q =
     rw (get_or-set_same g 0 v 0 (omega arith), get_or-set_other g 0 1 v 0 (λ e. omega arith), get_or-set_other g 0 2 v 0 (λ e. omega arith), ne_eqb (get_or g 0 0) v q, eq-eqb (get_or g 1 0) (get_or g 1 0) refl, eq-eqb (get_or g 2 0) (get_or g 2 0) refl)
@@ -62,28 +62,31 @@ register_values g (suc (suc zero)) v p₀ p b₀ b stop l h q =
 register_values g (suc (suc (suc k))) v p₀ p b₀ b stop l h q = absurd (omega arith)
 
 -- Sources that nobody wrote are kept.
-pub kept_same : (a : Stepped) (g : List ℕ) → Kept a g g
-kept_same (stepped.Done p b stop n) g = refl
-kept_same stepped.Unfitted g = refl
-kept_same stepped.Full g = refl
+pub kept_same : (a : Result Next Undone) (g : List ℕ) → Kept a g g
+kept_same (Ok n) g = refl
+kept_same (Err e) g = refl
 
 -- N, the fourth of the sources, is no part of the machine.
 pub fourth : (g : List ℕ) (n p : ℕ) (b stop : Bool) → held (set g 3 n) p b stop ≡ held g p b stop
 fourth g n p b stop = rw (get_or-set_other g 3 0 n 0 (λ e. omega arith), get_or-set_other g 3 1 n 0 (λ e. omega arith), get_or-set_other g 3 2 n 0 (λ e. omega arith))
 
-pub kept_before : (a : Stepped) (g g' : List ℕ) (n : ℕ) → Kept a (set g 3 n) g' → Kept a g g'
-kept_before (stepped.Done p b stop k) g g' n h = h ∙ length-set g 3 n
-kept_before stepped.Unfitted g g' n h = sym (fourth g n 0 false false) ∙ h
-kept_before stepped.Full g g' n h = sym (fourth g n 0 false false) ∙ h
+pub kept_before : (a : Result Next Undone) (g g' : List ℕ) (n : ℕ) → Kept a (set g 3 n) g' → Kept a g g'
+kept_before (Ok k) g g' n h = h ∙ length-set g 3 n
+kept_before (Err e) g g' n h = sym (fourth g n 0 false false) ∙ h
 
 -- ---- the change finished, by the record that was added
 
-module _ (m : Machine) (c : Change) (r : Mem) (t : List ℕ) (used : ℕ) (w : Word) (o : OldValues) (a : Added) (t' : List ℕ)
-    (hw : w ≡ changing r c.written) (ho : o ≡ old_values kind.Step m c.machine w) (ha : (a, t') ≡ added t used (record_bytes o)) where
-  pub completes_full : a ≡ Full → ended came_case.NoRoom r t' ≡ completed m c r t used
-  completes_full e = ap (ended_by c.machine) (finish_full kind.Step m c r t used w o a t' hw ho ha e)
+without_room : (z : Result Next Undone) → IsErrAnd z (λ e. e ≡ undone.Full) → z ≡ Err undone.Full
+without_room (Ok n) h = absurd h
+without_room (Err e) h = ap Err h
 
-  pub completes : (n : ℕ) (r' : Mem) → a ≡ Used n → r' ≡ rewritten r c.written → ended (came_case.Done c.machine n) r' t' ≡ completed m c r t used
+module _ (m : Machine) (c : Change) (r : Mem) (t : List ℕ) (used : ℕ) (w : Word) (o : OldValues) (a : Result ℕ TrailFull) (t' : List ℕ)
+    (hw : w ≡ changing r c.written) (ho : o ≡ old_values kind.Step m c.machine w) (ha : (a, t') ≡ added t used (record_bytes o)) where
+  pub completes_full : {x : TrailFull} → a ≡ Err x → (z : Result Next Undone) (g : List ℕ) → IsErrAnd z (λ e. e ≡ undone.Full) → ended (came z g) r t' ≡ completed m c r t used
+  completes_full e z g h =
+      ap (λ (y : Result Next Undone). ended (came y g) r t') (without_room z h) ∙ ap (ended_by c.machine) (finish_full kind.Step m c r t used w o a t' hw ho ha e)
+
+  pub completes : (n : ℕ) (r' : Mem) → a ≡ Ok n → r' ≡ rewritten r c.written → ended (came_case.Done c.machine n) r' t' ≡ completed m c r t used
   completes n r' e h = ap (ended_by c.machine) (finish_done kind.Step m c r t used w o a t' hw ho ha n r' e h)
 
 -- A word that was read before it is written over.
@@ -114,6 +117,13 @@ module _ (g : List ℕ) (p : ℕ) (b₀ : Bool) (f : Fields) (n v : ℕ) (b s : 
     unfolding delivered
     jumps k = rw (ne_eqb f.dsf 0 (λ z. omega arith), ne_eqb f.dsf 1 (λ z. omega arith), ne_eqb f.dsf 2 (λ z. omega arith), ne_eqb f.fsf 1 k)
 
+-- Why there is no M.
+pub told_bad : {o : Result ℕ NoOperand} {e : NoOperand} → o ≡ Err e → e ≡ operand.Bad → o ≡ Err operand.Bad
+told_bad p q = p ∙ ap Err q
+
+pub told_unfitted : {o : Result ℕ NoOperand} {e : NoOperand} → o ≡ Err e → e ≡ operand.Unfitted → o ≡ Err operand.Unfitted
+told_unfitted p q = p ∙ ap Err q
+
 -- The functions of a jump read main memory or have a constant.
 jump_operands : (f : Fields) (at r : ℕ) (main ports : List ℕ) → jumping f.fsf ≡ true → operands_of computes f at r main ports ≡ constant_or_word f main at r
 unfolding operands_of
@@ -133,7 +143,7 @@ write_operands f at r main ports t h = go (eqb f.dsf 6) h
 -- ---- one step
 
 -- The word at P is lacking.
-pub fetch_lacking : (m : Machine) (main ports trail : List ℕ) (used : ℕ) → fetched main m.p ≡ fetch.Unfitted → ended came_case.Unfitted (ram main ports) trail ≡ once m (ram main ports) trail used
+pub fetch_lacking : (m : Machine) (main ports trail : List ℕ) (used : ℕ) → word_in main m.p ≡ None → ended came_case.Unfitted (ram main ports) trail ≡ once m (ram main ports) trail used
 fetch_lacking m main ports trail used h = ap (by_plan m (ram main ports) trail used) (not_fetched m main ports h)
 
 -- P is FFFFF: N does not fit P, whatever the word.
@@ -143,7 +153,7 @@ unfolding operands_of executed decided
 top_once g p b main ports range has trail used e h =
     let m = held g p b false in
     let w = get_or main p 0 in
-    let f : Fields = record { rsf = parts.rsf w; msf = parts.msf w; dsf = dsf w; fsf = fsf w; addr = parts.addr w } in
+    let f = fields_of w in
     let k : part_by w p (OFFSET (parts.msf w, parts.addr w, m.x, m.y)) b false ≡ halts = rw (decided_is w p (OFFSET (parts.msf w, parts.addr w, m.x, m.y)) b, eq-eqb p 0xFFFFF e) in
     let z = phases_plan m main ports f halts range refl has (record { of_rsf = refl; of_msf = refl; of_dsf = refl; of_fsf = refl; of_addr = refl }) k in
     let n : next_p m ≡ 0 = rw e in
@@ -199,34 +209,34 @@ module _ (g : List ℕ) (p : ℕ) (b : Bool) (main ports : List ℕ) (f : Fields
       let low : f.addr < 2 ^ 20 = omega (arith, D.fields.of_addr) in
       rw (offset_is f.msf f.addr m.x m.y low range.x_lt range.y_lt, z) (lt-leb (2 ^ 20) f.addr low)
 
-  module _ (store : List ℕ) {o : Operand} (e : o ≡ constant_or f at store) where
-    held_told : {v : ℕ} → o ≡ operand.Held v → (bad at ≡ false) × (constant_or_word f store at r ≡ Held r v)
+  module _ (store : List ℕ) {o : Result ℕ NoOperand} (e : o ≡ constant_or f at store) where
+    held_told : {v : ℕ} → o ≡ Ok v → (bad at ≡ false) × (constant_or_word f store at r ≡ Held r v)
     held_told {v} h = go (eqb f.msf 0) refl (bad at) refl (ltb at (length store)) (sym e ∙ h)
       where
         go : (z : Bool) → eqb f.msf 0 ≡ z → (d : Bool) → bad at ≡ d → (t : Bool)
-            → cond z (operand.Held f.addr) (cond d operand.Bad (cond t (operand.Held (get_or store at 0)) operand.Unfitted)) ≡ operand.Held v
+            → cond z (Ok f.addr) (cond d (Err operand.Bad) (cond t (Ok (get_or store at 0)) (Err operand.Unfitted))) ≡ Ok v
             → (bad at ≡ false) × (cond z (Held r f.addr) (cond t (Held r (get_or store at 0)) Unfitted) ≡ Held r v)
         go true z d y t q = (constant_near z, cc)
         go false z true y t q = let n : ◌≡◌ {A = ℕ} 0 1 = cc in absurd (omega arith)
         go false z false y true q = (y, cc)
         go false z false y false q = let n : ◌≡◌ {A = ℕ} 0 1 = cc in absurd (omega arith)
 
-    lacking_told : o ≡ operand.Unfitted → (bad at ≡ false) × (constant_or_word f store at r ≡ Unfitted)
+    lacking_told : o ≡ Err operand.Unfitted → (bad at ≡ false) × (constant_or_word f store at r ≡ Unfitted)
     lacking_told h = go (eqb f.msf 0) (bad at) refl (ltb at (length store)) (sym e ∙ h)
       where
         go : (z d : Bool) → bad at ≡ d → (t : Bool)
-            → cond z (operand.Held f.addr) (cond d operand.Bad (cond t (operand.Held (get_or store at 0)) operand.Unfitted)) ≡ operand.Unfitted
+            → cond z (Ok f.addr) (cond d (Err operand.Bad) (cond t (Ok (get_or store at 0)) (Err operand.Unfitted))) ≡ Err operand.Unfitted
             → (bad at ≡ false) × (cond z (Held r f.addr) (cond t (Held r (get_or store at 0)) Unfitted) ≡ Unfitted)
         go true d y t q = let n : ◌≡◌ {A = ℕ} 0 1 = cc in absurd (omega arith)
         go false true y t q = let n : ◌≡◌ {A = ℕ} 0 1 = cc in absurd (omega arith)
         go false false y true q = let n : ◌≡◌ {A = ℕ} 0 1 = cc in absurd (omega arith)
         go false false y false q = (y, refl)
 
-    bad_told : o ≡ operand.Bad → bad at ≡ true
+    bad_told : o ≡ Err operand.Bad → bad at ≡ true
     bad_told h = go (eqb f.msf 0) (bad at) refl (ltb at (length store)) (sym e ∙ h)
       where
         go : (z d : Bool) → bad at ≡ d → (t : Bool)
-            → cond z (operand.Held f.addr) (cond d operand.Bad (cond t (operand.Held (get_or store at 0)) operand.Unfitted)) ≡ operand.Bad → bad at ≡ true
+            → cond z (Ok f.addr) (cond d (Err operand.Bad) (cond t (Ok (get_or store at 0)) (Err operand.Unfitted))) ≡ Err operand.Bad → bad at ≡ true
         go true d y t q = let n : ◌≡◌ {A = ℕ} 0 1 = cc in absurd (omega arith)
         go false true y t q = y
         go false false y true q = let n : ◌≡◌ {A = ℕ} 0 1 = cc in absurd (omega arith)
@@ -245,18 +255,18 @@ module _ (g : List ℕ) (p : ℕ) (b : Bool) (main ports : List ℕ) (f : Fields
     unfolding decided
     compares_by n = rw (k, not_top, n)
 
-    module _ {o : Operand} (e : o ≡ constant_or f at main) where
-      pub compares_held : {x : End} {v : ℕ} {t : Bool} → o ≡ operand.Held v → t ≡ COMPARE (f.fsf, r, v, b) → x ≡ flagged (p + 1) t false → x ≡ step
+    module _ {o : Result ℕ NoOperand} (e : o ≡ constant_or f at main) where
+      pub compares_held : {x : End} {v : ℕ} {t : Bool} → o ≡ Ok v → t ≡ COMPARE (f.fsf, r, v, b) → x ≡ flagged (p + 1) t false → x ≡ step
       unfolding operands_of executed
       compares_held {x} {v} {t} h c z =
           let d = held_told main e h in
           z ∙ rw (← next_is, c) (held_once compares (compares_by d.0) {r' = r} {v = v} d.1)
 
-      pub compares_bad : {x : End} → o ≡ operand.Bad → x ≡ flagged (p + 1) b true → x ≡ step
+      pub compares_bad : {x : End} → o ≡ Err operand.Bad → x ≡ flagged (p + 1) b true → x ≡ step
       unfolding decided
       compares_bad h z = halts_once (rw (k, not_top, bad_told main e h)) z
 
-      pub compares_lacking : o ≡ operand.Unfitted → ended came_case.Unfitted (ram main ports) trail ≡ step
+      pub compares_lacking : o ≡ Err operand.Unfitted → ended came_case.Unfitted (ram main ports) trail ≡ step
       unfolding operands_of
       compares_lacking h = let d = lacking_told main e h in lacking_once compares (compares_by d.0) d.1
 
@@ -315,39 +325,39 @@ module _ (g : List ℕ) (p : ℕ) (b : Bool) (main ports : List ℕ) (f : Fields
         go false y true z = absurd (true≢false (sym z ∙ d y))
         go false y false z = refl
 
-    module _ {o : Operand} (e : o ≡ operand_of f at main ports) where
+    module _ {o : Result ℕ NoOperand} (e : o ≡ operand_of f at main ports) where
       -- M is held: a shift's is 0, another's is told by its store.
-      functions_told : {v : ℕ} → o ≡ operand.Held v → (eqb f.fsf 12 ≡ false → bad at ≡ false) × (operands_of computes f at r main ports ≡ Held r v)
+      functions_told : {v : ℕ} → o ≡ Ok v → (eqb f.fsf 12 ≡ false → bad at ≡ false) × (operands_of computes f at r main ports ≡ Held r v)
       unfolding operands_of
       functions_told {v} h = go (eqb f.fsf 12) refl (eqb f.fsf 2) (sym e ∙ h)
         where
-          go : (t : Bool) → eqb f.fsf 12 ≡ t → (u : Bool) → cond t (operand.Held 0) (constant_or f at (cond u ports main)) ≡ operand.Held v
+          go : (t : Bool) → eqb f.fsf 12 ≡ t → (u : Bool) → cond t (Ok 0) (constant_or f at (cond u ports main)) ≡ Ok v
               → (eqb f.fsf 12 ≡ false → bad at ≡ false) × (cond t (Held r 0) (cond u (constant_or_word f ports at r) (constant_or_word f main at r)) ≡ Held r v)
           go true y u q = (λ n. absurd (true≢false (sym y ∙ n)), cc)
           go false y true q = let d = held_told ports refl q in (λ n. d.0, d.1)
           go false y false q = let d = held_told main refl q in (λ n. d.0, d.1)
 
-      pub computes_held : {x : End} {v : ℕ} {t : Triple} → o ≡ operand.Held v → ((df : ℕ) → df < 3 → t ≡ ALU (f.fsf, f.msf, df, r, v, b))
+      pub computes_held : {x : End} {v : ℕ} {t : Triple} → o ≡ Ok v → ((df : ℕ) → df < 3 → t ≡ ALU (f.fsf, f.msf, df, r, v, b))
           → x ≡ completed m (alone (delivered m f (p + 1) t)) (ram main ports) trail used → x ≡ step
       unfolding executed
       computes_held {x} {v} {t} h l z =
           let d = functions_told h in
           z ∙ rw (← next_is, l f.dsf register_low) (held_once computes (computes_by d.0) {r' = r} {v = v} d.1)
 
-      pub computes_bad : {x : End} → o ≡ operand.Bad → x ≡ flagged (p + 1) b true → x ≡ step
+      pub computes_bad : {x : End} → o ≡ Err operand.Bad → x ≡ flagged (p + 1) b true → x ≡ step
       unfolding decided
       computes_bad h z = halts_once (rw (not_top, lt-leb 7 class below, le-leb 4 class from) (go (eqb f.fsf 12) (eqb f.fsf 2) (sym e ∙ h))) z
         where
-          go : (t u : Bool) → cond t (operand.Held 0) (constant_or f at (cond u ports main)) ≡ operand.Bad → cond (bad at) (cond t computes halts) computes ≡ halts
+          go : (t u : Bool) → cond t (Ok 0) (constant_or f at (cond u ports main)) ≡ Err operand.Bad → cond (bad at) (cond t computes halts) computes ≡ halts
           go true u q = let n : ◌≡◌ {A = ℕ} 0 1 = cc in absurd (omega arith)
           go false true q = rw (bad_told ports refl q)
           go false false q = rw (bad_told main refl q)
 
-      pub computes_lacking : o ≡ operand.Unfitted → ended came_case.Unfitted (ram main ports) trail ≡ step
+      pub computes_lacking : o ≡ Err operand.Unfitted → ended came_case.Unfitted (ram main ports) trail ≡ step
       unfolding operands_of
       computes_lacking h = let d = go (eqb f.fsf 12) (eqb f.fsf 2) (sym e ∙ h) in lacking_once computes (computes_by (λ n. d.0)) d.1
         where
-          go : (t u : Bool) → cond t (operand.Held 0) (constant_or f at (cond u ports main)) ≡ operand.Unfitted
+          go : (t u : Bool) → cond t (Ok 0) (constant_or f at (cond u ports main)) ≡ Err operand.Unfitted
               → (bad at ≡ false) × (cond t (Held r 0) (cond u (constant_or_word f ports at r) (constant_or_word f main at r)) ≡ Unfitted)
           go true u q = let n : ◌≡◌ {A = ℕ} 0 1 = cc in absurd (omega arith)
           go false true q = lacking_told ports refl q
@@ -375,20 +385,20 @@ module _ (g : List ℕ) (p : ℕ) (b : Bool) (main ports : List ℕ) (f : Fields
       unfolding decided operands_of executed
       skips_9 k z = z ∙ rw (← next_is) (held_once skips (rw (not_top, le-leb 7 class from, n₈, k)) {r' = r} {v = 0} refl)
 
-      module _ (n₉ : (eqb class 9 && b) ≡ false) {o : Operand} (e : o ≡ constant_or f at main) where
+      module _ (n₉ : (eqb class 9 && b) ≡ false) {o : Result ℕ NoOperand} (e : o ≡ constant_or f at main) where
         jump_by : {t : Bool} → bad at ≡ t → decided class (eqb f.fsf 12) (top p) (bad at) b ≡ cond t halts computes
         unfolding decided
         jump_by d = rw (not_top, le-leb 7 class from, n₈, n₉, d)
 
-        pub jumps_held : {x : End} {v : ℕ} {t : Triple} → o ≡ operand.Held v → ((mf df : ℕ) → to_p df ≡ true → t ≡ ALU (f.fsf, mf, df, r, v, b))
+        pub jumps_held : {x : End} {v : ℕ} {t : Triple} → o ≡ Ok v → ((mf df : ℕ) → to_p df ≡ true → t ≡ ALU (f.fsf, mf, df, r, v, b))
             → x ≡ completed m (alone (delivered m f (p + 1) t)) (ram main ports) trail used → x ≡ step
         unfolding executed
         jumps_held {x} {v} {t} h l z =
             let d = held_told main e h in
             z ∙ rw (← next_is, l f.msf f.dsf (rw D.fields.of_dsf (jump_to_p w to_p_class))) (held_once computes (jump_by d.0) {r' = r} {v = v} (jump_operands f at r main ports jump_fsf ∙ d.1))
 
-        pub jumps_bad : {x : End} → o ≡ operand.Bad → x ≡ flagged (p + 1) b true → x ≡ step
+        pub jumps_bad : {x : End} → o ≡ Err operand.Bad → x ≡ flagged (p + 1) b true → x ≡ step
         jumps_bad h z = halts_once (jump_by (bad_told main e h)) z
 
-        pub jumps_lacking : o ≡ operand.Unfitted → ended came_case.Unfitted (ram main ports) trail ≡ step
+        pub jumps_lacking : o ≡ Err operand.Unfitted → ended came_case.Unfitted (ram main ports) trail ≡ step
         jumps_lacking h = let d = lacking_told main e h in lacking_once computes (jump_by d.0) (jump_operands f at r main ports jump_fsf ∙ d.1)

@@ -5,6 +5,7 @@ use mathlib.Core.Path.{◌≡◌, refl, sym, ap, subst, ◌∙◌}
 use mathlib.Core.Bool.{Bool, true, false, not, cond, ◌&&◌, ◌||◌, true≢false}
 use mathlib.Core.List.{List}
 use mathlib.Core.Option.{some}
+use Rattle.std.specs.Prelude.{Some, None}
 use Prim.Native.Nat.{ℕ, ◌+◌, ◌%◌, ◌^◌, ◌<◌, ◌≤◌}
 use native.Mathlib.Omega.{arith}
 use native.Mathlib.Nat.{mod-eq_of_lt}
@@ -20,11 +21,11 @@ use Rattle.report.proofs.Order.{next_by_parts, source_lt, operand_lt}
 use Rattle.report.proofs.Readings.{offset_is, reg_is, compare_is, alu_is}
 use Rattle.machine.specs.Held.{ram, state, machine_of, place_of}
 use Rattle.machine.specs.declared.Machine.{Machine}
-use Rattle.instruction.specs.Fields.{Fielded}
+use Rattle.instruction.specs.Fields.{Fielded, fields_of}
+use Rattle.instruction.proofs.FieldsOf.{fields_are}
 use Rattle.instruction.specs.declared.Fields.{Fields}
 use Rattle.step.specs.Phases as plan
-use Rattle.step.specs.declared.phases.Fetched.TheVariants as fetch
-use Rattle.step.specs.Phases.{Operands, Held, Unfitted, Written, Nothing, Word, Plan, fetched, next_p, source_of, word_from, write_to, operands_of, with_flags, delivered, alone, executed, lacks, step_unfitted, writing, planned}
+use Rattle.step.specs.Phases.{Operands, Held, Unfitted, Written, Nothing, Word, Plan, word_in, next_p, source_of, word_from, write_to, operands_of, with_flags, delivered, alone, executed, lacks, step_unfitted, writing, planned}
 
 -- ---- tests that exclude each other, over the 1,024 classes
 
@@ -72,16 +73,9 @@ unfolding word_at with_word fitted
 word_back r true a v h = get_or-set_same r.ports a v 0 (ltb-true a (length r.ports) h)
 word_back r false a v h = get_or-set_same r.main a v 0 (ltb-true a (length r.main) h)
 
--- the fields of a word
-abbrev taken : ℕ → Fields
-taken w = record { rsf = rsf w; msf = msf w; dsf = dsf w; fsf = fsf w; addr = addr w }
-
-taken_is : (w : ℕ) (f : Fields) → Fielded w f → f ≡ taken w
-taken_is w f e = rw (← e.of_rsf, ← e.of_msf, ← e.of_dsf, ← e.of_fsf, ← e.of_addr)
-
 -- a result at its destination, as a machine
 delivered_is : (m : Machine) (w : ℕ) (r : Mem) (t : Triple) → m.p + 1 < 2 ^ 20
-    → machine_of (placed (dsf w) (fsf w) r m.p m.a m.x m.y t) ≡ delivered m (taken w) (next_p m) t
+    → machine_of (placed (dsf w) (fsf w) r m.p m.a m.x m.y t) ≡ delivered m (fields_of w) (next_p m) t
 unfolding placed delivered
 delivered_is m w r (v, b, s) h = go (eqb (dsf w) 0) (eqb (dsf w) 1) (eqb (dsf w) 2) (eqb (fsf w) 1)
   where
@@ -132,7 +126,7 @@ module _ (m : Machine) (main ports : List ℕ) (g : InRange (state m (ram main p
   at = address (msf w) (addr w) m.x m.y
 
   abbrev f : Fields
-  f = taken w
+  f = fields_of w
 
   abbrev r : ℕ
   r = source (rsf w) m.a m.x m.y (next_p m)
@@ -333,7 +327,7 @@ pub phases_plan : (m : Machine) (main ports : List ℕ) (f : Fields) (k : Part) 
     → plan_from k f at m (operands_of k f at (source_of m f) main ports) ≡ planned (state m (ram main ports))
 phases_plan m main ports f k g live hp e q =
     let w = get_or main m.p 0 in
-    let t = taken_is w f e in
+    let t = fields_are e in
     let a : OFFSET (f.msf, f.addr, m.x, m.y) ≡ address (msf w) (addr w) m.x m.y = rw t (offset_is (msf w) (addr w) m.x m.y (omega arith) g.x_lt g.y_lt) in
     rw (a, t) (by_tests m main ports g live hp k (sym (ap (λ (n : ℕ). part_by w m.p n m.b false) a) ∙ q))
 
@@ -345,16 +339,16 @@ unfetched m main ports h = rw (le-ltb m.p (length main) h)
 -- ---- fetch
 
 -- a word that was fetched stands at P
-pub was_fetched : (main : List ℕ) (p w : ℕ) → fetched main p ≡ fetch.Word w → (p < length main) × (w ≡ get_or main p 0)
+pub was_fetched : (main : List ℕ) (p w : ℕ) → word_in main p ≡ Some w → (p < length main) × (w ≡ get_or main p 0)
 was_fetched main p w e = go (ltb p (length main)) refl e
   where
-    go : (t : Bool) → ltb p (length main) ≡ t → cond t (fetch.Word (get_or main p 0)) fetch.Unfitted ≡ fetch.Word w → (p < length main) × (w ≡ get_or main p 0)
+    go : (t : Bool) → ltb p (length main) ≡ t → cond t (Some (get_or main p 0)) None ≡ Some w → (p < length main) × (w ≡ get_or main p 0)
     go true h q = (ltb-true p (length main) h, cc)
     go false h q = let z : ◌≡◌ {A = ℕ} 0 1 = cc in absurd (omega arith)
 
-pub not_fetched : (m : Machine) (main ports : List ℕ) → fetched main m.p ≡ fetch.Unfitted → plan.Lacking ≡ planned (state m (ram main ports))
+pub not_fetched : (m : Machine) (main ports : List ℕ) → word_in main m.p ≡ None → plan.Lacking ≡ planned (state m (ram main ports))
 not_fetched m main ports e = go (ltb m.p (length main)) refl e
   where
-    go : (t : Bool) → ltb m.p (length main) ≡ t → cond t (fetch.Word (get_or main m.p 0)) fetch.Unfitted ≡ fetch.Unfitted → plan.Lacking ≡ planned (state m (ram main ports))
+    go : (t : Bool) → ltb m.p (length main) ≡ t → cond t (Some (get_or main m.p 0)) None ≡ None → plan.Lacking ≡ planned (state m (ram main ports))
     go true h q = let z : ◌≡◌ {A = ℕ} 0 1 = cc in absurd (omega arith)
     go false h q = unfetched m main ports (ltb-false m.p (length main) h)

@@ -19,10 +19,9 @@ use Rattle.machine.specs.declared.Machine.{Machine}
 use Rattle.trail.specs.declared.Kind.{Kind}
 use Rattle.trail.specs.Records as records
 use Rattle.trail.specs.declared.OldValues.{OldValues}
-use Rattle.trail.specs.declared.Added.{Added}
-use Rattle.trail.specs.declared.Added.TheVariants as added
-use Rattle.trail.specs.declared.Word.{Word}
-use Rattle.trail.specs.declared.Word.TheVariants as word
+use Rattle.trail.specs.declared.TrailFull.{TrailFull}
+use Rattle.trail.specs.Records.{Word}
+use Rattle.std.specs.Prelude.{Some, None, Result, Ok, Err}
 use Rattle.step.specs.Phases as written
 use Rattle.step.specs.Phases.{Written, Change}
 use Rattle.step.specs.Finishing.{Fitted, Addressed, changing, rewritten, left, finished}
@@ -59,7 +58,7 @@ pub changing_addressed : (r : Mem) (w : Written) → Addressed r w → records.A
 changing_addressed r written.Nothing h = tt
 changing_addressed r (written.Word q v) h = go (eqb (word_at r (where_of q)) v)
   where
-    go : (t : Bool) → records.Addressed (cond t word.Kept (word.Changed q (word_at r (where_of q))))
+    go : (t : Bool) → records.Addressed (cond t None (Some (record { place = q; value = word_at r (where_of q) })))
     go true = tt
     go false = h.low
 
@@ -73,18 +72,18 @@ pub changing_value : (main ports : List ℕ) (w : Written) → ((k : ℕ) → ge
 changing_value main ports written.Nothing hm hp = omega arith
 changing_value main ports (written.Word q v) hm hp = go (eqb (word_at (ram main ports) (where_of q)) v)
   where
-    go : (t : Bool) → records.word_value (cond t word.Kept (word.Changed q (word_at (ram main ports) (where_of q)))) < 2 ^ 32
+    go : (t : Bool) → records.word_value (cond t None (Some (record { place = q; value = word_at (ram main ports) (where_of q) }))) < 2 ^ 32
     go true = omega arith
     go false = in_range main ports (where_of q) hm hp
 
 -- ---- the last phase
 
-module _ (k : Kind) (m : Machine) (c : Change) (r : Mem) (t : List ℕ) (used : ℕ) (w : Word) (o : OldValues) (a : Added) (t' : List ℕ)
+module _ (k : Kind) (m : Machine) (c : Change) (r : Mem) (t : List ℕ) (used : ℕ) (w : Word) (o : OldValues) (a : Result ℕ TrailFull) (t' : List ℕ)
     (hw : w ≡ changing r c.written) (ho : o ≡ records.old_values k m c.machine w) (ha : (a, t') ≡ records.added t used (records.record_bytes o)) where
-  pub finish_full : a ≡ added.Full → left added.Full r t' ≡ finished k m c r t used
+  pub finish_full : {x : TrailFull} → a ≡ Err x → left (Err x) r t' ≡ finished k m c r t used
   unfolding finished
   finish_full e = rw (← hw, ← ho, ← ha, e)
 
-  pub finish_done : (n : ℕ) (r' : Mem) → a ≡ added.Used n → r' ≡ rewritten r c.written → left (added.Used n) r' t' ≡ finished k m c r t used
+  pub finish_done : (n : ℕ) (r' : Mem) → a ≡ Ok n → r' ≡ rewritten r c.written → left (Ok n) r' t' ≡ finished k m c r t used
   unfolding finished
   finish_done n r' e h = rw (← hw, ← ho, ← ha, e, h)

@@ -1,21 +1,19 @@
 -- What the last phase does with a change: its record is added to the trail, and then its word is written.
 -- Assumes nothing.
-use Rattle.std.specs.Prelude.{ℕ, ◌<◌, ◌^◌, ◌≡◌, true, false, cond, List, eqb, length}
+use Rattle.std.specs.Prelude.{ℕ, ◌<◌, ◌^◌, ◌≡◌, true, false, cond, List, eqb, length, Some, None, Result, Ok, Err}
 use Rattle.report.specs.AnnexA.{Mem}
 use Rattle.report.specs.Parts.{Where, fitted, word_at, with_word}
 use Rattle.machine.specs.Held.{where_of}
 use Rattle.machine.specs.declared.Machine.{Machine}
 use Rattle.trail.specs.declared.Kind.{Kind}
 use Rattle.trail.specs.declared.Kind.TheVariants as kind
-use Rattle.trail.specs.Records.{old_values, record_bytes, added}
-use Rattle.trail.specs.declared.Word.{Word}
-use Rattle.trail.specs.declared.Word.TheVariants as word
-use Rattle.trail.specs.declared.Added.{Added}
-use Rattle.trail.specs.declared.Added.TheVariants.{Used, Full}
+use Rattle.trail.specs.Records.{Word, old_values, record_bytes, added}
+use Rattle.trail.specs.declared.TrailFull.{TrailFull}
 use Rattle.machine.specs.Held.{state}
 use Rattle.machine.specs.declared.Place.{Place}
-use Rattle.step.specs.declared.finish.Stepped.{Stepped}
-use Rattle.step.specs.declared.finish.Stepped.TheVariants as stepped
+use Rattle.step.specs.declared.finish.Next.{Next}
+use Rattle.step.specs.declared.finish.Undone.{Undone}
+use Rattle.step.specs.declared.finish.Undone.TheVariants as undone
 use Rattle.step.specs.Phases as written
 use Rattle.step.specs.Phases.{held, Written, Change, Plan, Go, Lacking, planned}
 
@@ -30,7 +28,7 @@ Addressed ram (written.Word q v) = Fitted ram (where_of q)
 
 -- A word with this old value, once v is written over it.
 abbrev pub changed_to : Place → ℕ → ℕ → Word
-changed_to q old v = cond (eqb old v) word.Kept (word.Changed q old)
+changed_to q old v = cond (eqb old v) None (Some (record { place = q; value = old }))
 
 -- The weight of the mark of the register with this number: A, X and Y are 0, 1 and 2.
 abbrev pub mark_weight : ℕ → ℕ
@@ -38,7 +36,7 @@ mark_weight k = cond (eqb k 0) 1 (cond (eqb k 1) 2 4)
 
 -- The word that changes, with its old value.
 abbrev pub changing : Mem → Written → Word
-changing ram written.Nothing = word.Kept
+changing ram written.Nothing = None
 changing ram (written.Word q v) = changed_to q (word_at ram (where_of q)) v
 
 -- The stores with the word written.
@@ -48,20 +46,20 @@ rewritten ram (written.Word q v) = with_word ram (where_of q) v
 
 -- The answer, the stores and the trail.
 pub record Finish : Type 0 where
-  pub answered : Added
+  pub answered : Result ℕ TrailFull
   pub stores : Mem
   pub trail : List ℕ
 
-abbrev pub finishing : Added × List ℕ → Mem → Written → Finish
-finishing (Full, t) ram w = record { answered = Full; stores = ram; trail = t }
-finishing (Used n, t) ram w = record { answered = Used n; stores = rewritten ram w; trail = t }
+abbrev pub finishing : Result ℕ TrailFull × List ℕ → Mem → Written → Finish
+finishing (Err e, t) ram w = record { answered = Err e; stores = ram; trail = t }
+finishing (Ok n, t) ram w = record { answered = Ok n; stores = rewritten ram w; trail = t }
 
 unfoldable pub finished : Kind → Machine → Change → Mem → List ℕ → ℕ → Finish
 finished k m c ram trail used =
     finishing (added trail used (record_bytes (old_values k m c.machine (changing ram c.written)))) ram c.written
 
 -- What `finish` answered and left.
-abbrev pub left : Added → Mem → List ℕ → Finish
+abbrev pub left : Result ℕ TrailFull → Mem → List ℕ → Finish
 left a ram t = record { answered = a; stores = ram; trail = t }
 
 -- ---- what became of a step
@@ -73,16 +71,15 @@ pub data Came : Type 0 where
   NoRoom : Came
 
 -- As the code answers it, beside the sources after it.
-abbrev pub came : Stepped → List ℕ → Came
-came (stepped.Done p b stop n) sources = Done (held sources p b stop) n
-came stepped.Unfitted sources = Unfitted
-came stepped.Full sources = NoRoom
+abbrev pub came : Result Next Undone → List ℕ → Came
+came (Ok n) sources = Done (held sources n.p n.b n.stop) n.used
+came (Err undone.Unfitted) sources = Unfitted
+came (Err undone.Full) sources = NoRoom
 
 -- A step leaves the number of the sources, and where it is not done A, X and Y.
-abbrev pub Kept : Stepped → List ℕ → List ℕ → Type 0
-Kept (stepped.Done p b stop n) old new = length new ≡ length old
-Kept stepped.Unfitted old new = held old 0 false false ≡ held new 0 false false
-Kept stepped.Full old new = held old 0 false false ≡ held new 0 false false
+abbrev pub Kept : Result Next Undone → List ℕ → List ℕ → Type 0
+Kept (Ok n) old new = length new ≡ length old
+Kept (Err e) old new = held old 0 false false ≡ held new 0 false false
 
 -- The answer, the stores and the trail.
 pub record End : Type 0 where
@@ -93,9 +90,9 @@ pub record End : Type 0 where
 abbrev pub ended : Came → Mem → List ℕ → End
 ended a ram t = record { answer = a; stores = ram; trail = t }
 
-abbrev pub answered_by : Machine → Added → Came
-answered_by m Full = NoRoom
-answered_by m (Used n) = Done m n
+abbrev pub answered_by : Machine → Result ℕ TrailFull → Came
+answered_by m (Err e) = NoRoom
+answered_by m (Ok n) = Done m n
 
 abbrev pub ended_by : Machine → Finish → End
 ended_by m f = ended (answered_by m f.answered) f.stores f.trail

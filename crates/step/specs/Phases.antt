@@ -1,8 +1,8 @@
 -- What each phase of a step shows: the word fetched, the word decoded, R and M, and what the step changes.
 -- That together they are the report's NEXT and document 01's refusal 5 is `phases_plan` in proofs/Planning.antt.
 -- Assumes nothing.
-use Rattle.std.specs.Prelude.{ℕ, ◌+◌, ◌%◌, ◌^◌, ◌<◌, ◌≡◌, Bool, true, false, not, cond, ◌||◌, List, eqb, ltb, length, get_or}
-use Rattle.std.proofs.Math.Option.{Option, none, some}
+use Rattle.std.specs.Prelude.{ℕ, ◌+◌, ◌%◌, ◌^◌, ◌<◌, ◌≡◌, Bool, true, false, not, cond, ◌||◌, List, eqb, ltb, length, get_or, Option, Some, None, Result, Ok, Err}
+use Rattle.std.proofs.Math.Option.{Option as Maybe, none, some}
 use Rattle.report.specs.AnnexA.{Mem}
 use Rattle.report.specs.Section3.{State, Triple, REG, COMPARE, ALU, NEXT}
 use Rattle.report.specs.Parts as parts
@@ -13,15 +13,14 @@ use Rattle.machine.specs.declared.Place.{Place}
 use Rattle.instruction.specs.Fields.{Fielded}
 use Rattle.instruction.specs.Classes.{class_of_word}
 use Rattle.instruction.specs.declared.Fields.{Fields}
-use Rattle.step.specs.declared.phases.Fetched.{Fetched}
-use Rattle.step.specs.declared.phases.Fetched.TheVariants as fetch
-use Rattle.step.specs.declared.phases.Operand.{Operand}
-use Rattle.step.specs.declared.phases.Operand.TheVariants as operand
+use Rattle.step.specs.declared.phases.NoOperand.{NoOperand}
+use Rattle.step.specs.declared.phases.NoOperand.TheVariants as operand
 
 -- ---- fetch
 
-abbrev pub fetched : List ℕ → ℕ → Fetched
-fetched main p = cond (ltb p (length main)) (fetch.Word (get_or main p 0)) fetch.Unfitted
+-- The word of a store at a number, where it has one.
+abbrev pub word_in : List ℕ → ℕ → Option ℕ
+word_in store at = cond (ltb at (length store)) (Some (get_or store at 0)) None
 
 -- ---- decode
 
@@ -47,15 +46,12 @@ pub record Decodes (m : Machine) (main : List ℕ) (f : Fields) (class r : ℕ) 
 -- ---- operands
 
 -- M as the code finds it. A bad address is told apart, since it halts.
-abbrev pub read_from : List ℕ → ℕ → Operand
-read_from store at = cond (ltb at (length store)) (operand.Held (get_or store at 0)) operand.Unfitted
-
-abbrev pub constant_or : Fields → ℕ → List ℕ → Operand
-constant_or f at store = cond (eqb f.msf 0) (operand.Held f.addr) (cond (parts.bad at) operand.Bad (read_from store at))
+abbrev pub constant_or : Fields → ℕ → List ℕ → Result ℕ NoOperand
+constant_or f at store = cond (eqb f.msf 0) (Ok f.addr) (cond (parts.bad at) (Err operand.Bad) (cond (ltb at (length store)) (Ok (get_or store at 0)) (Err operand.Unfitted)))
 
 -- A shift has no M, and function 2 reads a port.
-abbrev pub operand_of : Fields → ℕ → List ℕ → List ℕ → Operand
-operand_of f at main ports = cond (eqb f.fsf 12) (operand.Held 0) (constant_or f at (cond (eqb f.fsf 2) ports main))
+abbrev pub operand_of : Fields → ℕ → List ℕ → List ℕ → Result ℕ NoOperand
+operand_of f at main ports = cond (eqb f.fsf 12) (Ok 0) (constant_or f at (cond (eqb f.fsf 2) ports main))
 
 -- R and M, once the word that is to be read or written is known to be fitted.
 pub data Operands : Type 0 where
@@ -122,7 +118,7 @@ pub data Plan : Type 0 where
   Go : Change → Plan
   Lacking : Plan
 
-abbrev pub lacks : Mem → Option Where → Bool
+abbrev pub lacks : Mem → Maybe Where → Bool
 lacks ram none = false
 lacks ram (some q) = not (fitted ram q)
 
@@ -131,7 +127,7 @@ unfoldable pub step_unfitted : State → Bool
 step_unfitted s = lacks s.0 (some (false, s.1)) || (lacks s.0 (reads s) || lacks s.0 (written s))
 
 -- The word at a place, as what is to be written there.
-abbrev pub writing : Option Where → Mem → Written
+abbrev pub writing : Maybe Where → Mem → Written
 writing none ram = Nothing
 writing (some q) ram = Word (place_of q) (word_at ram q)
 

@@ -10,14 +10,32 @@ ghost use Rattle.step.specs.Phases.{held, alone, Word as the_written_Word};
 ghost use Rattle.step.specs.Finishing.{Fitted, mark_weight, changed_to, came, Kept, ended, completed};
 
 use machine::Place;
-use trail::{Added, Word};
+use trail::{OldWord, TrailFull};
 
-// What became of a step: P, B and STOP and the count of bytes in use after it, or why it was not done.
-#[derive(Clone, Copy)]
-pub enum Stepped {
-    Done(u32, bool, bool, usize),
+// P, B and STOP after a step, and the count of bytes in use.
+#[derive(Clone, Copy, Debug, PartialEq, Eq)]
+pub struct Next {
+    pub p: u32,
+    pub b: bool,
+    pub stop: bool,
+    pub used: usize,
+}
+
+// Why a step was not done: it wants a word that is not fitted, or its record is longer than the free bytes.
+#[derive(Clone, Copy, Debug, PartialEq, Eq)]
+pub enum Undone {
     Unfitted,
     Full,
+}
+
+impl From<TrailFull> for Undone {
+    ghost use Rattle.step.specs.declared.finish.Undone.TheVariants.{Full};
+
+    ghost from_gives = { λ _ e. e ≡ Full };
+
+    fn from(_e: TrailFull) -> Undone {
+        Undone::Full
+    }
 }
 
 // Whether a place is fitted.
@@ -65,13 +83,13 @@ pub fn put_word(main: &mut [u32], ports: &mut [u32], place: Place, value: u32)
 }
 
 // A word with this old value, once a value is written over it.
-pub fn changed_to(place: Place, old: u32, value: u32) -> Word
+pub fn changed_to(place: Place, old: u32, value: u32) -> Option<OldWord>
     ensures { result ≡ changed_to place old value }
 {
     if old == value {
-        return Word::Kept;
+        return None;
     }
-    Word::Changed(place, old)
+    Some(OldWord { place, value: old })
 }
 
 // Adds the record of a step that writes this value over the old one.
@@ -84,7 +102,7 @@ fn note_word(
     value: u32,
     trail: &mut [u8],
     used: usize,
-) -> Added
+) -> Result<usize, TrailFull>
     requires { (p < 2 ^ 20) × ((where_of place).1 < 2 ^ 20) × (used ≤ length trail.old) }
     ensures { (result, trail.new) ≡ added trail.old used (record_bytes (registers_kept p b stop (changed_to place old value))) }
 {
@@ -103,14 +121,12 @@ pub(crate) fn finish_flags(
     stop: bool,
     trail: &mut [u8],
     used: usize,
-) -> Stepped
+) -> Result<Next, Undone>
     requires { (p0 < 2 ^ 20) × (used ≤ length trail.old) }
     ensures { (stores : Mem) (sources : List ℕ) → ended (came result sources) stores trail.new ≡ completed (held sources p0 b0 false) (alone (held sources p b stop)) stores trail.old used }
 {
-    let Added::Used(n) = trail::records::add_flags(trail, used, p0, b0, false) else {
-        return Stepped::Full;
-    };
-    Stepped::Done(p, b, stop, n)
+    let used = trail::records::add_flags(trail, used, p0, b0, false)?;
+    Ok(Next { p, b, stop, used })
 }
 
 // The weight of a register's mark: 1, 2 and 4 for A, X and Y.
@@ -133,7 +149,7 @@ pub(crate) fn finish_register(
     stop: bool,
     trail: &mut [u8],
     used: usize,
-) -> Stepped
+) -> Result<Next, Undone>
     requires { (k < 3) × (p0 < 2 ^ 20) × (used ≤ length trail.old) × (length sources.old ≡ 4) }
     ensures { Kept result sources.old sources.new × ((stores : Mem) → ended (came result sources.new) stores trail.new ≡ completed (held sources.old p0 b0 false) (alone (held (set sources.old k v) p b stop)) stores trail.old used) }
 {
@@ -142,12 +158,9 @@ pub(crate) fn finish_register(
     if old == v {
         return finish_flags(p0, b0, p, b, stop, trail, used);
     }
-    let Added::Used(n) = trail::records::add_register(trail, used, mark_of(k), p0, b0, false, old)
-    else {
-        return Stepped::Full;
-    };
+    let used = trail::records::add_register(trail, used, mark_of(k), p0, b0, false, old)?;
     sources[i] = v;
-    Stepped::Done(p, b, stop, n)
+    Ok(Next { p, b, stop, used })
 }
 
 // Finishes a step that writes a word to a fitted place.
@@ -161,15 +174,18 @@ pub(crate) fn finish_word(
     ports: &mut [u32],
     trail: &mut [u8],
     used: usize,
-) -> Stepped
+) -> Result<Next, Undone>
     requires p0_bound { (p0 < 2 ^ 20) × (used ≤ length trail.old) }
     requires fitted { Fitted (ram main.old ports.old) (where_of place) }
     ensures { (sources : List ℕ) → ended (came result sources) (ram main.new ports.new) trail.new ≡ completed (held sources p0 b0 false) (record { machine = held sources p b0 false; written = the_written_Word place v }) (ram main.old ports.old) trail.old used }
 {
     let old = word_at(main, ports, place);
-    let Added::Used(n) = note_word(p0, b0, false, place, old, v, trail, used) else {
-        return Stepped::Full;
-    };
+    let used = note_word(p0, b0, false, place, old, v, trail, used)?;
     put_word(main, ports, place, v);
-    Stepped::Done(p, b0, false, n)
+    Ok(Next {
+        p,
+        b: b0,
+        stop: false,
+        used,
+    })
 }

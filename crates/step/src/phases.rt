@@ -6,50 +6,27 @@
 ghost use Rattle.std.specs.Prelude.{◌≡◌, false, cond, ◌≤◌, ◌<◌, ◌^◌, eqb, length, get_or};
 ghost use Rattle.report.specs.Parts.{InRange};
 ghost use Rattle.machine.specs.Held.{ram, state, place_by};
-ghost use Rattle.instruction.specs.Classes.{Classified};
 ghost use Rattle.instruction.specs.Sources.{address_of};
 ghost use Rattle.step.specs.Lawful.{Lawful};
-ghost use Rattle.step.specs.Phases.{held, fetched, Decodes, read_from, constant_or, operand_of};
+ghost use Rattle.step.specs.Phases.{held, word_in, Decodes, constant_or, operand_of};
 ghost use Rattle.step.specs.Finishing.{came, Kept, ended, once};
 
-use crate::finish::{Stepped, finish_flags, finish_register, finish_word, is_fitted};
-use instruction::Fields;
+use crate::finish::{Next, Undone, finish_flags, finish_register, finish_word, is_fitted};
+use instruction::{ClassTable, Fields};
 use machine::{MainAddress, Place, PortNumber};
 
-// The word at P.
-#[derive(Clone, Copy)]
-pub enum Fetched {
-    Word(u32),
-    Unfitted,
-}
-
-// M, or why there is none: a bad address halts, and a word that is not fitted refuses the step.
-#[derive(Clone, Copy)]
-pub enum Operand {
-    Held(u32),
+// Why there is no M: a bad address halts, and a word that is not fitted refuses the step.
+#[derive(Clone, Copy, Debug, PartialEq, Eq)]
+pub enum NoOperand {
     Bad,
     Unfitted,
 }
 
-pub(crate) fn fetch(main: &[u32], p: u32) -> Fetched
-    ensures { result ≡ fetched main.now p }
+// The word of a store at a number, where it has one.
+pub(crate) fn word_in(store: &[u32], at: u32) -> Option<u32>
+    ensures { result ≡ word_in store.now at }
 {
-    let i = p as usize;
-    if i < main.len() {
-        return Fetched::Word(main[i]);
-    }
-    Fetched::Unfitted
-}
-
-// The word of a store as M.
-fn read(store: &[u32], at: u32) -> Operand
-    ensures { result ≡ read_from store.now at }
-{
-    let i = at as usize;
-    if i < store.len() {
-        return Operand::Held(store[i]);
-    }
-    Operand::Unfitted
+    store.get(at as usize).copied()
 }
 
 // M: the constant addr where msf is 0, else a word, of the ports or of main. Which of them is asked last: a constant has no store.
@@ -59,30 +36,30 @@ fn constant_or_read(
     sources: &[u32; 4],
     main: &[u32],
     ports: &[u32],
-) -> Operand
-    requires { (f.msf < 4) × (f.addr < 2 ^ 20) × (get_or sources.now 1 0 < 2 ^ 32) × (get_or sources.now 2 0 < 2 ^ 32) }
+) -> Result<u32, NoOperand>
+    requires { (get_or sources.now 1 0 < 2 ^ 32) × (get_or sources.now 2 0 < 2 ^ 32) }
     ensures { result ≡ constant_or f (address_of f.msf f.addr sources.now) (cond port ports.now main.now) }
 {
     if f.msf == 0 {
-        return Operand::Held(f.addr);
+        return Ok(f.addr);
     }
-    let at = instruction::address(f.msf, f.addr, sources);
+    let at = f.address(sources);
     if at > 0xF_FFFF {
-        return Operand::Bad;
+        return Err(NoOperand::Bad);
     }
     if port {
-        return read(ports, at);
+        return word_in(ports, at).ok_or(NoOperand::Unfitted);
     }
-    read(main, at)
+    word_in(main, at).ok_or(NoOperand::Unfitted)
 }
 
 // M of a function for A, X or Y: a shift has none, and function 2 reads a port.
-fn operand_of(f: Fields, sources: &[u32; 4], main: &[u32], ports: &[u32]) -> Operand
-    requires { (f.msf < 4) × (f.addr < 2 ^ 20) × (get_or sources.now 1 0 < 2 ^ 32) × (get_or sources.now 2 0 < 2 ^ 32) }
+fn operand_of(f: Fields, sources: &[u32; 4], main: &[u32], ports: &[u32]) -> Result<u32, NoOperand>
+    requires { (get_or sources.now 1 0 < 2 ^ 32) × (get_or sources.now 2 0 < 2 ^ 32) }
     ensures { result ≡ operand_of f (address_of f.msf f.addr sources.now) main.now ports.now }
 {
     if f.fsf == 12 {
-        return Operand::Held(0);
+        return Ok(0);
     }
     constant_or_read(f, f.fsf == 2, sources, main, ports)
 }
@@ -98,7 +75,7 @@ fn place_of(class: u8, at: u32) -> Place
 }
 
 // A result for a register: which one (0, 1 or 2 for A, X or Y), its value, and P, B and STOP after it.
-#[derive(Clone, Copy)]
+#[derive(Clone, Copy, Debug, PartialEq, Eq)]
 struct Delivery {
     to: u32,
     value: u32,
@@ -119,7 +96,7 @@ fn deliver(
     ports: &[u32],
     trail: &mut [u8],
     used: usize,
-) -> Stepped
+) -> Result<Next, Undone>
     requires lawful { Lawful p (length main.now) (length ports.now) (length trail.old) used × (length sources.old ≡ 4) }
     requires in_range { InRange (state (held sources.old p b false) (ram main.now ports.now)) }
     requires decodes { Decodes (held sources.old p b false) main.now f class r × (4 ≤ class) }
@@ -143,7 +120,7 @@ fn deliver(
         }
         let o = constant_or_read(f, false, sources, main, ports);
         match o {
-            Operand::Held(v) => {
+            Ok(v) => {
                 let t = word::alu_jump(f.fsf, r, v, b);
                 if f.fsf != 1 {
                     return finish_flags(p, b, t.value % 0x10_0000, t.b, t.stop, trail, used);
@@ -156,17 +133,17 @@ fn deliver(
                     stop: t.stop,
                 };
             }
-            Operand::Bad => {
+            Err(NoOperand::Bad) => {
                 return finish_flags(p, b, next, b, true, trail, used);
             }
-            Operand::Unfitted => {
-                return Stepped::Unfitted;
+            Err(NoOperand::Unfitted) => {
+                return Err(Undone::Unfitted);
             }
         }
     } else {
         let o = operand_of(f, sources, main, ports);
         match o {
-            Operand::Held(v) => {
+            Ok(v) => {
                 let t = word::alu_register(f.fsf, f.msf, r, v, b);
                 d = Delivery {
                     to: f.dsf,
@@ -176,11 +153,11 @@ fn deliver(
                     stop: t.stop,
                 };
             }
-            Operand::Bad => {
+            Err(NoOperand::Bad) => {
                 return finish_flags(p, b, next, b, true, trail, used);
             }
-            Operand::Unfitted => {
-                return Stepped::Unfitted;
+            Err(NoOperand::Unfitted) => {
+                return Err(Undone::Unfitted);
             }
         }
     }
@@ -189,7 +166,7 @@ fn deliver(
 
 // One step of a machine with these sources, P and B, that is not stopped.
 pub fn step_once(
-    table: &[u8; 1024],
+    table: &ClassTable,
     sources: &mut [u32; 4],
     p: u32,
     b: bool,
@@ -197,14 +174,13 @@ pub fn step_once(
     ports: &mut [u32],
     trail: &mut [u8],
     used: usize,
-) -> Stepped
-    requires classified { Classified table.now }
+) -> Result<Next, Undone>
     requires lawful { Lawful p (length main.old) (length ports.old) (length trail.old) used × (length sources.old ≡ 4) }
     requires in_range { InRange (state (held sources.old p b false) (ram main.old ports.old)) }
     ensures { Kept result sources.old sources.new × (ended (came result sources.new) (ram main.new ports.new) trail.new ≡ once (held sources.old p b false) (ram main.old ports.old) trail.old used) }
 {
-    let Fetched::Word(w) = fetch(main, p) else {
-        return Stepped::Unfitted;
+    let Some(w) = word_in(main, p) else {
+        return Err(Undone::Unfitted);
     };
     if p == 0xF_FFFF {
         // N does not fit P.
@@ -212,36 +188,36 @@ pub fn step_once(
     }
     let next = p + 1;
     sources[3] = next;
-    let class = instruction::class_of(table, w);
-    let f = instruction::take_apart(w);
-    let r = instruction::register(f.rsf, sources);
+    let class = table.class_of(w);
+    let f = Fields::of_word(w);
+    let r = f.register(sources);
     if class < 4 {
         // A comparison, a word that always halts, or a write: no register changes.
         if class == 0 {
             let o = constant_or_read(f, false, sources, main, ports);
             match o {
-                Operand::Held(v) => {
+                Ok(v) => {
                     let test = word::compare(f.fsf, r, v, b);
                     return finish_flags(p, b, next, test, false, trail, used);
                 }
-                Operand::Bad => {
+                Err(NoOperand::Bad) => {
                     return finish_flags(p, b, next, b, true, trail, used);
                 }
-                Operand::Unfitted => {
-                    return Stepped::Unfitted;
+                Err(NoOperand::Unfitted) => {
+                    return Err(Undone::Unfitted);
                 }
             }
         }
         if class == 1 {
             return finish_flags(p, b, next, b, true, trail, used);
         }
-        let at = instruction::address(f.msf, f.addr, sources);
+        let at = f.address(sources);
         if at >= 0x10_0000 {
             return finish_flags(p, b, next, b, true, trail, used);
         }
         let place = place_of(class, at);
         if !is_fitted(main, ports, place) {
-            return Stepped::Unfitted;
+            return Err(Undone::Unfitted);
         }
         return finish_word(p, b, place, r, next, main, ports, trail, used);
     }

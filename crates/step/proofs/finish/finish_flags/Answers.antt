@@ -3,17 +3,17 @@ use mathlib.Core.Path.{refl}
 use mathlib.Core.List.{List}
 use Prim.Native.Nat.{ℕ}
 use Rattle.report.specs.AnnexA.{Mem}
-use Rattle.trail.specs.declared.Word.TheVariants.{Kept}
+use Rattle.std.specs.Prelude.{None}
 use Rattle.step.specs.Phases.{held, alone}
 use Rattle.step.proofs.Completing.{kept_values, completes_full, completes}
 use Rattle.step.proofs.finish.finish_flags.Goals as goal
 
-pub returns-in_default : goal.returns-in_default
-returns-in_default c =
+pub returns-in_err-used : goal.returns-in_err-used
+returns-in_err-used c =
     let a = c.args in
-    λ (r : Mem) (g : List ℕ). completes_full (held g a.p0 a.b0 _) (alone (held g a.p a.b a.stop)) r a.trail.now a.used Kept _ _ _ refl (kept_values g a.p0 a.p a.b0 a.b a.stop Kept) c.add_flags.ensures c.in_default.is
+    λ (r : Mem) (g : List ℕ). completes_full (held g a.p0 a.b0 _) (alone (held g a.p a.b a.stop)) r a.trail.now a.used None _ _ _ refl (kept_values g a.p0 a.p a.b0 a.b a.stop None) c.add_flags.ensures c.in_err-used.was c.from_residual.result g c.from_residual.ensures.1
 
 pub returns : goal.returns
 returns c =
     let a = c.args in
-    λ (r : Mem) (g : List ℕ). completes (held g a.p0 a.b0 _) (alone (held g a.p a.b a.stop)) r a.trail.now a.used Kept _ _ _ refl (kept_values g a.p0 a.p a.b0 a.b a.stop Kept) c.add_flags.ensures c.in-Used.n r c.in-Used.is refl
+    λ (r : Mem) (g : List ℕ). completes (held g a.p0 a.b0 _) (alone (held g a.p a.b a.stop)) r a.trail.now a.used None _ _ _ refl (kept_values g a.p0 a.p a.b0 a.b a.stop None) c.add_flags.ensures c.in_ok-used.used r c.in_ok-used.was refl
