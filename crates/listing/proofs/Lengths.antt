@@ -2,31 +2,27 @@
 -- Assumes nothing.
 use Prim.Native.Nat.{ℕ, suc, ◌+◌, ◌≤◌, ◌<◌}
 use mathlib.Core.Path.{◌≡◌, refl}
-use mathlib.Core.Bool.{◌&&◌}
-use mathlib.Core.List.{List, [], ◌∷◌, ◌++◌, append-nil}
+use mathlib.Core.Bool.{Bool, true, false, ◌&&◌}
+use mathlib.Core.List.{List, [], ◌∷◌, ◌++◌}
 use native.Mathlib.Omega.{arith}
-use lib.Dec.{T, leb, leb→le}
+use lib.Dec.{T, eqb, leb, leb→le}
 use lib.ListN.{length, length-append}
 use Rattle.text.specs.Text.{text}
 use Rattle.text.specs.Digits.{hex}
 use Rattle.text.proofs.Digits.{hex_length}
 use Rattle.report.specs.Parts as parts
 use Rattle.report.proofs.Finite.{all, below, both_left, both_right}
+use Rattle.instruction.specs.Fields.{fields_of}
 use Rattle.language.specs.declared.forms.Form.{Form}
 use Rattle.language.specs.declared.forms.Form.TheVariants.{Word, Comparison, Write, Shift, Unary, Binary}
 use Rattle.language.specs.Names.{split, destination_name, function_name, shift_name, comparison_name, register_name}
-use Rattle.language.specs.Line.{fields_of, operand, word_fields, fields, fields_by, form, spaced, line}
+use Rattle.language.specs.Line.{operand, field, word_fields, fields, fields_by, form, spaced, line}
 use Rattle.listing.specs.Listing.{lines, listing, most_bytes}
-use Rattle.listing.proofs.Operands.{operand_bounds}
 use Rattle.language.proofs.Shapes.{Told, told}
-use Rattle.listing.proofs.Spacing.{spaced_length}
 
-pub word_put : (w : ℕ) → spaced (word_fields w) ≡ text " WORD " ++ hex 8 w
+word_length : (w : ℕ) → length (spaced (word_fields w)) ≡ 14
 unfolding spaced
-word_put w = rw append-nil
-
-pub word_length : (w : ℕ) → length (spaced (word_fields w)) ≡ 14
-word_length w = rw (word_put w) (rw (length-append (text " WORD ") (hex 8 w), hex_length 8 w) refl)
+word_length w = simp (length-append, hex_length)
 
 pub line_length : (address w : ℕ) → length (line address w) ≡ length (spaced (fields w)) + 6
 unfolding line
@@ -52,31 +48,47 @@ bounded t low high n e k h =
       leb→le (length (t k)) high (both_right (leb low (length (t k))) (leb (length (t k)) high) p),
     )
 
-pub destination_bounds : (d : ℕ) → d < 8 → Within 1 3 (destination_name d)
+destination_bounds : (d : ℕ) → d < 8 → Within 1 3 (destination_name d)
 unfolding destination_name split
 destination_bounds d h = bounded destination_name 1 3 8 tt d h
 
-pub result_bounds : (d : ℕ) → d < 6 → Within 1 2 (destination_name d)
+result_bounds : (d : ℕ) → d < 6 → Within 1 2 (destination_name d)
 unfolding destination_name split
 result_bounds d h = bounded destination_name 1 2 6 tt d h
 
-pub function_bounds : (f : ℕ) → f < 12 → Within 2 4 (function_name f)
+function_bounds : (f : ℕ) → f < 12 → Within 2 4 (function_name f)
 unfolding function_name split
 function_bounds f h = bounded function_name 2 4 12 tt f h
 
-pub shift_bounds : (m : ℕ) → m < 4 → Within 3 4 (shift_name m)
+shift_bounds : (m : ℕ) → m < 4 → Within 3 4 (shift_name m)
 unfolding shift_name split
 shift_bounds m h = bounded shift_name 3 4 4 tt m h
 
-pub comparison_bounds : (f : ℕ) → f < 16 → Within 2 3 (comparison_name f)
+comparison_bounds : (f : ℕ) → f < 16 → Within 2 3 (comparison_name f)
 unfolding comparison_name split
 comparison_bounds f h = bounded comparison_name 2 3 16 tt f h
 
-pub register_bounds : (r : ℕ) → r < 4 → Within 1 1 (register_name r)
+register_bounds : (r : ℕ) → r < 4 → Within 1 1 (register_name r)
 unfolding register_name split
 register_bounds r h = bounded register_name 1 1 4 tt r h
 
+-- ---- operands
+
+operand_bounds : (m a : ℕ) → Within 5 7 (operand m a)
+unfolding operand
+operand_bounds m a = go (eqb m 0) (eqb m 1) (eqb m 2) refl refl refl
+  where
+    go : (x y z : Bool) → eqb m 0 ≡ x → eqb m 1 ≡ y → eqb m 2 ≡ z → Within 5 7 (operand m a)
+    go true y z e f g = rw e (simp hex_length (omega arith, omega arith))
+    go false true z e f g = rw (e, f) (simp hex_length (omega arith, omega arith))
+    go false false true e f g = rw (e, f, g) (simp (length-append, hex_length) (omega arith, omega arith))
+    go false false false e f g = rw (e, f, g) (simp (length-append, hex_length) (omega arith, omega arith))
+
 -- ---- the line
+
+spaced_length : (t : List ℕ) (ts : List (List ℕ)) → length (spaced (t ∷ ts)) ≡ suc (length t) + length (spaced ts)
+unfolding spaced
+spaced_length t ts = length-append (field t) (spaced ts)
 
 three : (a b c : List ℕ) → length (spaced (a ∷ b ∷ c ∷ [])) ≡ length a + length b + length c + 3
 unfolding spaced
@@ -126,9 +138,6 @@ line_bounds address w =
     let b = fields_bounds w (form w) (told w) in
     let l = line_length address w in
     (omega arith, omega arith)
-
-pub any_address : (address w : ℕ) → length (line address w) ≡ length (line 0 w)
-any_address address w = omega (arith, line_length address w, line_length 0 w)
 
 lines_at_most : (address : ℕ) (words : List ℕ) → length (lines address words) ≤ most_bytes (length words)
 unfolding lines

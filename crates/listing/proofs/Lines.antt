@@ -8,7 +8,6 @@ use native.Mathlib.Nat.{zero-add, add-zero}
 use native.Mathlib.Numerals.{add-one}
 use lib.ListN.{length, get_or, take, drop, length-append, take-append-drop}
 use lib.Seq.{take-suc, length-take-le}
-use Rattle.text.specs.Placed.{Placed}
 use Rattle.language.specs.Line.{line}
 use Rattle.listing.specs.Listing.{lines, listing}
 
@@ -26,6 +25,11 @@ next_line main i h =
     let n : length (take i main) ≡ i = length-take-le i main (omega arith) in
     rw (add-one, take-suc main i 0 h, lines_append 0 (take i main) (get_or main i 0 ∷ []), n, zero-add, append-nil)
 
+pub next_length : (main : List ℕ) (i : ℕ) → i < length main
+    → length (listing (take (i + 1) main)) ≡ length (listing (take i main)) + length (line i (get_or main i 0))
+next_length main i h =
+    ap length (next_line main i h) ∙ length-append (listing (take i main)) (line i (get_or main i 0))
+
 pub first_lines : (main : List ℕ) (i : ℕ) → length (listing (take i main)) ≤ length (listing main)
 first_lines main i =
     let rest = lines (0 + length (take i main)) (drop i main) in
@@ -33,9 +37,3 @@ first_lines main i =
     = ap listing (sym (take-append-drop i main)) ∙ lines_append 0 (take i main) (drop i main)
     in
     omega (arith, ap length e, length-append (listing (take i main)) rest)
-
--- The lines of all words are the listing.
-pub whole : {ws main d e : List ℕ} {j : ℕ} → ws ≡ main → Placed 0 (listing ws) d j e → Placed 0 (listing main) d (length (listing main)) e
-whole {ws} {main} {d} {e} {j} same p =
-    let n : j ≡ length (listing main) = omega (arith, p.next_is, ap (λ x. length (listing x)) same) in
-    rw (← n, ← same) p

@@ -1,83 +1,44 @@
--- Fields put one after the other, each after a blank, are the fields of the line; what has room for all of them has room for the next and then for the others.
+-- Fields put one after the other, each after a blank, are the fields of the line.
 -- Assumes nothing.
-use Prim.Native.Nat.{ℕ, suc, ◌+◌, ◌≤◌}
-use mathlib.Core.Path.{◌≡◌}
-use mathlib.Core.List.{List, [], ◌∷◌, append-nil}
-use native.Mathlib.Omega.{arith}
-use lib.ListN.{length, take, length-append}
-use lib.Seq.{length-take-le}
-use Rattle.text.specs.Placed.{Placed}
-use Rattle.text.proofs.Placing.{put_then, placed_within}
-use Rattle.language.specs.declared.names.Name.{Name}
-use Rattle.language.specs.Names.{Named}
-use Rattle.instruction.specs.declared.Fields.{Fields}
-use Rattle.language.specs.declared.forms.Form.{Form}
-use Rattle.language.specs.Line.{field, fields_by, spaced}
+use Rattle.std.specs.Prelude.{ℕ, ◌+◌, ◌<◌, ◌≤◌, ◌≡◌, List, [], ◌∷◌, ◌++◌, length, map, drop, slice_index_or}
+use Rattle.std.proofs.Common.{Bor, arith, ap, length-append}
+use Rattle.std.proofs.lemmas.Grind.{common_steps}
+use native.Mathlib.Numerals.{add-one}
+use Rattle.std.proofs.Math.Seq.{drop-cons}
+use Rattle.std.proofs.Math.ListN.{drop_of_length-le}
+use mathlib.Core.List.{append-nil}
+use Rattle.language.specs.Line.{field, spaced}
 
--- ---- texts put
+-- What a read past the last field gives.
+abbrev none : Bor (List ℕ)
+none = record { ref_ptr = (0, 0); now = [] }
 
--- The fields stand in the buffer from a place on, each after a blank.
-pub record Spaced (at : ℕ) (ts : List (List ℕ)) (d : List ℕ) (j : ℕ) (f : List ℕ) : Type 0 where
-  pub placed : Placed at (spaced ts) d j f
+-- The fields from a place on.
+abbrev fields_from : ℕ → List (Bor (List ℕ)) → List ℕ
+fields_from i fields = spaced (map (λ f. f.now) (drop i fields))
 
-pub field_then : {at i j : ℕ} {t : List ℕ} {ts : List (List ℕ)} {d e f : List ℕ}
-    → at ≤ length d
-    → Placed at (field t) d i e
-    → (i ≤ length e → Spaced i ts e j f)
-    → Spaced at (t ∷ ts) d j f
+-- The first fields stand in the line, so that the others are still to come.
+pub record Coming (i : ℕ) (fields : List (Bor (List ℕ))) (before line : List ℕ) : Type 0 where
+  pub whole : line ++ fields_from i fields ≡ before ++ fields_from 0 fields
+
+next_field : (fields : List (Bor (List ℕ))) (i : ℕ) → i < length fields
+    → fields_from i fields ≡ field (slice_index_or fields i none).now ++ fields_from (i + 1) fields
 unfolding spaced
-field_then h p q = record { placed = put_then h p (q (placed_within h p)).placed }
+next_field fields i h = rw (drop-cons fields i none h, add-one)
 
-pub field_last : {at j : ℕ} {t d f : List ℕ} → Placed at (field t) d j f → Spaced at (t ∷ []) d j f
+module _ {i : ℕ} {fields : List (Bor (List ℕ))} {before line : List ℕ} (h : i < length fields) (c : Coming i fields before line) where
+  pub field_room : (n : ℕ) → length before + length (fields_from 0 fields) ≤ n → length line + 1 + length (slice_index_or fields i none).now ≤ n
+  field_room n room =
+      omega (arith, simp length-append at (ap length c.whole), simp length-append at (ap length (next_field fields i h)))
+
+  pub field_put : Coming (i + 1) fields before (line ++ (32 ∷ []) ++ (slice_index_or fields i none).now)
+  field_put =
+      let e = next_field fields i h in
+      record { whole = grind (arith, common_steps) }
+
+pub all_put : {i : ℕ} {fields : List (Bor (List ℕ))} {before line : List ℕ} → length fields ≤ i → Coming i fields before line
+    → line ≡ before ++ fields_from 0 fields
 unfolding spaced
-field_last p = record { placed = rw append-nil p }
-
-module _ {n : Name} {t : List ℕ} (named : Named n t) where
-  pub name_put : {at i : ℕ} {d e : List ℕ} → Placed at (field (take n.0 n.1)) d i e → Placed at (field t) d i e
-  name_put p = rw (← named.letters) p
-
-  pub name_length : length t ≡ n.0
-  name_length = rw (← named.letters) (length-take-le n.0 n.1 named.within)
-
--- ---- room
-
-pub spaced_length : (t : List ℕ) (ts : List (List ℕ)) → length (spaced (t ∷ ts)) ≡ suc (length t) + length (spaced ts)
-unfolding spaced
-spaced_length t ts = length-append (field t) (spaced ts)
-
--- There is room for fields from a place on.
-pub record Room (at : ℕ) (ts : List (List ℕ)) (room : ℕ) : Type 0 where
-  pub fits : at + length (spaced ts) ≤ room
-
-pub room_name : {n : Name} {t : List ℕ} {ts : List (List ℕ)} {at room : ℕ}
-    → Named n t
-    → Room at (t ∷ ts) room
-    → (n.0 ≤ length n.1) × (at + suc n.0 ≤ room)
-room_name {t = t} {ts = ts} named h = (named.within, omega (arith, h.fits, spaced_length t ts, name_length named))
-
-pub room_field : {t : List ℕ} {ts : List (List ℕ)} {at room : ℕ} → Room at (t ∷ ts) room → at + length (field t) ≤ room
-room_field {t} {ts} h = omega (arith, h.fits, spaced_length t ts)
-
-pub room_then : {at i : ℕ} {t : List ℕ} {ts : List (List ℕ)} {d e : List ℕ}
-    → Placed at (field t) d i e
-    → length e ≡ length d
-    → Room at (t ∷ ts) (length d)
-    → Room i ts (length e)
-room_then {t = t} {ts = ts} p same h =
-    record { fits = omega (arith, h.fits, same, p.next_is, spaced_length t ts) }
-
--- ---- a form told by the arm that it is matched in, and the fields taken out of a word
-
-pub told_room : {k t : Form} {f g : Fields} (w at room : ℕ)
-    → k ≡ t
-    → f ≡ g
-    → at + length (spaced (fields_by k w g)) ≤ room
-    → at + length (spaced (fields_by t w f)) ≤ room
-told_room w at room p q h = rw (← p, q) h
-
-pub told_put : {k t : Form} {at j : ℕ} {f g : Fields} {d e : List ℕ} (w : ℕ)
-    → k ≡ t
-    → f ≡ g
-    → Placed at (spaced (fields_by t w f)) d j e
-    → Placed at (spaced (fields_by k w g)) d j e
-told_put w p q h = rw (p, ← q) h
+all_put {i} {fields} {before} {line} h c =
+    let e = drop_of_length-le fields h in
+    rw (e, append-nil) at c.whole

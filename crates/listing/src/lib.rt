@@ -4,4 +4,4 @@
 mod line;
 mod store;
 
-pub use store::{Listed, OneLine, line_of_word, list};
+pub use store::{ListRefusal, line_of_word, list};

@@ -1,125 +1,93 @@
-// One line of the listing (document 02, W1): the address of a word and its fields, put at a place of a buffer.
-ghost use Rattle.std.specs.Prelude.{suc, ◌+◌, ◌≤◌, ◌≡◌, length, take};
-ghost use Rattle.text.specs.Placed.{Placed};
-ghost use Rattle.instruction.specs.Classes.{Classified};
-ghost use Rattle.language.specs.Line.{fields_of, operand, word_fields, comparison_fields, write_fields, shift_fields, unary_fields, binary_fields, fields_by, field, spaced, line};
+// One line of the listing (document 02, W1): the address of a word and its fields.
+ghost use Rattle.std.specs.Prelude.{ℕ, ◌+◌, ◌≤◌, ◌≡◌, ◌++◌, length, map};
+ghost use Rattle.text.specs.Digits.{hex};
+ghost use Rattle.instruction.specs.Fields.{fields_of};
+ghost use Rattle.language.specs.Line.{operand, fields_by, spaced, line};
 
-use instruction::Fields;
+use instruction::{ClassTable, Fields};
 use language::forms::{Form, form_of};
 use language::names;
-use language::names::Name;
-use text::{put_byte, put_hex, put_text};
+use text::Text;
 
-// Each function that puts something into the buffer from a place on answers the place after it.
-
-// A name after a blank.
-fn put_name(out: &mut [u8], at: usize, name: Name) -> usize
-    requires { (name.0 ≤ length name.1) × (at + suc name.0 ≤ length out.old) }
-    ensures { Placed at (field (take name.0 name.1)) out.old result out.new }
+// Fields, each after a blank.
+#[tactic(auto, using(crate::proofs::Spacing::field_put, crate::proofs::Spacing::all_put))]
+fn push_spaced(line: &mut Text<24>, fields: &[&[u8]])
+    requires { length line.old + length (spaced (map (λ field. field.now) fields.now)) ≤ 24 }
+    ensures { line.new ≡ line.old ++ spaced (map (λ field. field.now) fields.now) }
 {
-    let bytes = name.1;
-    let n = name.0;
-    let letters = put_byte(out, at, b' ');
-    put_text(out, letters, &bytes[..n])
-}
-
-// An operand after a blank.
-fn put_operand(out: &mut [u8], at: usize, msf: u32, addr: u32) -> usize
-    requires { at + length (field (operand msf addr)) ≤ length out.old }
-    ensures { Placed at (field (operand msf addr)) out.old result out.new }
-{
-    if msf == 0 {
-        let digits = put_text(out, at, b" #");
-        return put_hex(out, digits, 5, addr as usize);
+    for field in fields {
+        line.push(b' ');
+        line.push_text(field);
     }
-    let digits = put_text(out, at, b" ");
-    let next = put_hex(out, digits, 5, addr as usize);
-    if msf == 1 {
-        return next;
+}
+
+// What stands before and after the digits of an operand: #00005, 00005, 00005+X or 00005+Y.
+#[tactic(auto, unfolding(language::specs::Line::operand))]
+fn signs(msf: u32) -> (&'static [u8], &'static [u8])
+    ensures around { (addr : ℕ) → operand msf addr ≡ result.0.now ++ hex 5 addr ++ result.1.now }
+    ensures within { length result.0.now + length result.1.now ≤ 2 }
+{
+    match msf {
+        0 => (b"#", b""),
+        1 => (b"", b""),
+        2 => (b"", b"+X"),
+        _ => (b"", b"+Y"),
     }
-    if msf == 2 {
-        return put_text(out, next, b"+X");
-    }
-    put_text(out, next, b"+Y")
 }
 
-fn put_word(out: &mut [u8], at: usize, w: u32) -> usize
-    requires { at + length (spaced (word_fields w)) ≤ length out.old }
-    ensures { Placed at (spaced (word_fields w)) out.old result out.new }
+// An operand.
+#[tactic(auto, using(text::proofs::Digits::hex_length))]
+fn operand_of(f: Fields) -> Text<7>
+    ensures { result ≡ operand f.msf f.addr }
 {
-    let digits = put_text(out, at, b" WORD ");
-    put_hex(out, digits, 8, w as usize)
+    let (before, after) = signs(f.msf);
+    let mut operand = Text::new();
+    operand.push_text(before);
+    operand.push_hex(5, f.addr as usize);
+    operand.push_text(after);
+    operand
 }
 
-fn put_comparison(out: &mut [u8], at: usize, f: Fields) -> usize
-    requires { at + length (spaced (comparison_fields f)) ≤ length out.old }
-    ensures { Placed at (spaced (comparison_fields f)) out.old result out.new }
+// All 32 bits of a word.
+fn digits_of(w: u32) -> Text<8>
+    ensures { result ≡ hex 8 w }
 {
-    let mut next = put_text(out, at, b" CMP");
-    next = put_name(out, next, names::comparison(f.fsf));
-    next = put_name(out, next, names::register(f.rsf));
-    put_operand(out, next, f.msf, f.addr)
+    let mut digits = Text::new();
+    digits.push_hex(8, w as usize);
+    digits
 }
 
-fn put_write(out: &mut [u8], at: usize, f: Fields) -> usize
-    requires { at + length (spaced (write_fields f)) ≤ length out.old }
-    ensures { Placed at (spaced (write_fields f)) out.old result out.new }
+// The fields of a word of a form, each after a blank.
+#[tactic(auto, using(instruction::proofs::FieldsOf::fields_are), unfolding(language::specs::Line::fields_by))]
+fn push_fields(line: &mut Text<24>, form: Form, w: u32)
+    requires { length line.old + length (spaced (fields_by form w (fields_of w))) ≤ 24 }
+    ensures { line.new ≡ line.old ++ spaced (fields_by form w (fields_of w)) }
 {
-    let mut next = put_name(out, at, names::destination(f.dsf));
-    next = put_name(out, next, names::register(f.rsf));
-    put_operand(out, next, f.msf, f.addr)
-}
-
-fn put_shift(out: &mut [u8], at: usize, f: Fields) -> usize
-    requires { at + length (spaced (shift_fields f)) ≤ length out.old }
-    ensures { Placed at (spaced (shift_fields f)) out.old result out.new }
-{
-    let mut next = put_name(out, at, names::destination(f.dsf));
-    next = put_name(out, next, names::shift(f.msf));
-    put_name(out, next, names::register(f.rsf))
-}
-
-fn put_unary(out: &mut [u8], at: usize, f: Fields) -> usize
-    requires { at + length (spaced (unary_fields f)) ≤ length out.old }
-    ensures { Placed at (spaced (unary_fields f)) out.old result out.new }
-{
-    let mut next = put_name(out, at, names::destination(f.dsf));
-    next = put_name(out, next, names::function(f.fsf));
-    put_operand(out, next, f.msf, f.addr)
-}
-
-fn put_binary(out: &mut [u8], at: usize, f: Fields) -> usize
-    requires { at + length (spaced (binary_fields f)) ≤ length out.old }
-    ensures { Placed at (spaced (binary_fields f)) out.old result out.new }
-{
-    let mut next = put_name(out, at, names::destination(f.dsf));
-    next = put_name(out, next, names::function(f.fsf));
-    next = put_name(out, next, names::register(f.rsf));
-    put_operand(out, next, f.msf, f.addr)
-}
-
-fn put_fields(out: &mut [u8], at: usize, form: Form, w: u32) -> usize
-    requires { at + length (spaced (fields_by form w (fields_of w))) ≤ length out.old }
-    ensures { Placed at (spaced (fields_by form w (fields_of w))) out.old result out.new }
-{
-    let f = instruction::take_apart(w);
+    let f = Fields::of_word(w);
+    let destination = names::destination(f.dsf);
+    let function = names::function(f.fsf);
+    let register = names::register(f.rsf);
+    let operand = operand_of(f);
     match form {
-        Form::Word => put_word(out, at, w),
-        Form::Comparison => put_comparison(out, at, f),
-        Form::Write => put_write(out, at, f),
-        Form::Shift => put_shift(out, at, f),
-        Form::Unary => put_unary(out, at, f),
-        Form::Binary => put_binary(out, at, f),
+        Form::Word => push_spaced(line, &[b"WORD", digits_of(w).as_bytes()]),
+        Form::Comparison => {
+            let comparison = names::comparison(f.fsf);
+            push_spaced(line, &[b"CMP", comparison, register, operand.as_bytes()])
+        }
+        Form::Write => push_spaced(line, &[destination, register, operand.as_bytes()]),
+        Form::Shift => push_spaced(line, &[destination, names::shift(f.msf), register]),
+        Form::Unary => push_spaced(line, &[destination, function, operand.as_bytes()]),
+        Form::Binary => push_spaced(line, &[destination, function, register, operand.as_bytes()]),
     }
 }
 
-// The line of a word at an address.
-pub fn put_line(table: &[u8; 1024], out: &mut [u8], at: usize, address: usize, w: u32) -> usize
-    requires { Classified table.now × (at + length (line address w) ≤ length out.old) }
-    ensures { Placed at (line address w) out.old result out.new }
+// The line of a word at an address, whose last five digits it tells.
+pub fn line_of(table: &ClassTable, address: usize, w: u32) -> Text<24>
+    ensures { result ≡ line address w }
 {
-    let form = form_of(table, w);
-    let mut next = put_hex(out, at, 5, address);
-    next = put_fields(out, next, form, w);
-    put_text(out, next, b"\n")
+    let mut line = Text::new();
+    line.push_hex(5, address);
+    push_fields(&mut line, form_of(table, w), w);
+    line.push(b'\n');
+    line
 }

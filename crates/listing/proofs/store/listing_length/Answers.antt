@@ -1,32 +1,23 @@
-use mathlib.Core.Path.{refl, ap}
-use native.Mathlib.Omega.{arith}
-use lib.ListN.{length, get_or, take, length-append}
-use Rattle.language.specs.Line.{line}
-use Rattle.listing.specs.Listing.{lines, listing}
-use Rattle.listing.proofs.Lengths.{line_bounds, any_address}
-use Rattle.listing.proofs.Lines.{next_line}
+-- The lengths of the first lines are at most that of all.
+-- Assumes nothing.
+use Rattle.std.proofs.Common.{refl, arith, ap, length, ◌+◌}
+use Rattle.listing.specs.Listing.{lines}
+use Rattle.listing.proofs.Lengths.{listing_at_most}
+use Rattle.listing.proofs.Lines.{next_length, first_lines}
 use Rattle.listing.proofs.store.listing_length.Goals as goal
 
-pub loop-i-init : goal.loop-i-init
+pub loop-address-init : goal.loop-address-init
 unfolding lines
-loop-i-init c = (omega arith, refl, omega arith)
+loop-address-init c = refl
 
 pub overflow_add-total : goal.overflow_add-total
-overflow_add-total c = omega (arith, (line_bounds 0 (get_or c.args.main.now c.loop-i.i 0)).1)
+overflow_add-total c =
+    let main = c.args.main.now in
+    let i = c.loop-address.address in
+    omega (arith, listing_at_most main, first_lines main (i + 1), next_length main i (omega arith), ap length c.line_of.ensures)
 
-pub loop-i-preserved : goal.loop-i-preserved
-loop-i-preserved c =
-    let l = c.loop-i in
-    let w = get_or c.args.main.now l.i 0 in
-    let n = next_line c.args.main.now l.i (omega arith) in (
-      omega arith,
-      omega (
-        arith,
-        l.invariant.1,
-        c.line_length-total.ensures,
-        ap length n,
-        length-append (listing (take l.i c.args.main.now)) (line l.i w),
-        any_address l.i w,
-      ),
-      omega (arith, l.invariant.2, c.line_length-total.ensures, (line_bounds 0 w).1),
-    )
+pub loop-address-preserved : goal.loop-address-preserved
+loop-address-preserved c =
+    let main = c.args.main.now in
+    let i = c.loop-address.address in
+    omega (arith, c.loop-address.invariant, next_length main i (omega arith), ap length c.line_of.ensures)
