@@ -1,12 +1,13 @@
 -- The marks of an operation's record tell what changed and the old flags, since each is one bit of their sum; so its old values are such as a record can hold.
 -- Assumes nothing.
-use Prim.Native.Nat.{ℕ, ◌/◌, ◌%◌, ◌^◌, ◌<◌, ◌≤◌}
+use Prim.Native.Nat.{ℕ, ◌+◌, ◌*◌, ◌/◌, ◌%◌, ◌^◌, ◌<◌, ◌≤◌}
 use mathlib.Core.Path.{◌≡◌, refl}
 use mathlib.Core.Bool.{Bool, true, false, cond}
 use native.Mathlib.Omega.{arith}
 use lib.Dec.{eqb}
 use borrow.Author.Tests.{eq-eqb, ne_eqb}
 use Rattle.std.specs.Prelude.{Some, None}
+use Rattle.std.specs.Int.{from_bool}
 use Rattle.report.specs.AnnexA.{BV}
 use Rattle.machine.specs.declared.Machine.{Machine}
 use Rattle.machine.specs.Held.{where_of}
@@ -20,6 +21,15 @@ use Rattle.trail.specs.Records.{Word, marked, differs, word_changed, word_place,
 pub bit : (t : Bool) → BV t ≤ 1
 bit true = omega arith
 bit false = omega arith
+
+-- A mark as the code has it, and the sum of six.
+pub byte_bit : (t : Bool) → from_bool t ≡ BV t
+byte_bit true = refl
+byte_bit false = refl
+
+pub marks_sum : (ta tx ty tw tb ts : Bool) {a x y w f : ℕ} → a ≡ from_bool ta → x ≡ from_bool tx → y ≡ from_bool ty → w ≡ from_bool tw → f ≡ 16 * BV tb + 32 * BV ts
+    → a + 2 * x + 4 * y + 8 * w + f ≡ marks_by ta tx ty tw tb ts
+marks_sum ta tx ty tw tb ts ea ex ey ew ef = omega (arith, byte_bit ta, byte_bit tx, byte_bit ty, byte_bit tw)
 
 odd : (t : Bool) (n : ℕ) → n % 2 ≡ BV t → eqb (n % 2) 1 ≡ t
 odd true n h = eq-eqb (n % 2) 1 h

@@ -64,10 +64,10 @@ adds_kept trail used p b s m e h = rw (kept_bytes p b s, ← m, e) h
 -- ---- one register
 
 -- The marks, by the weight of the register's.
-register_marks : {w k l : ℕ} → Register w → (b s : Bool) → k ≡ 16 * BV b → l ≡ 32 * BV s → w + (k + l) ≡ marks_by (eqb w 1) (eqb w 2) (eqb w 4) false b s
-register_marks is_a b s e f = omega arith
-register_marks is_x b s e f = omega arith
-register_marks is_y b s e f = omega arith
+register_marks : {w f : ℕ} → Register w → (b s : Bool) → f ≡ 16 * BV b + 32 * BV s → w + f ≡ marks_by (eqb w 1) (eqb w 2) (eqb w 4) false b s
+register_marks is_a b s e = omega arith
+register_marks is_x b s e = omega arith
+register_marks is_y b s e = omega arith
 
 pub register_few : {w : ℕ} → Register w → w ≤ 4
 register_few is_a = omega arith
@@ -87,22 +87,22 @@ changed_bytes is_y p b s old =
     rw (m.a, m.x, m.y, m.word, groups_one 1 (omega arith), groups_one (marks_by false false true false b s) (omega (arith, m.few)), append-nil (groups old))
 
 -- The record of one register by the groups of P and of its old value; and as a record with one value.
-pub register_closed : {w k l : ℕ} → Register w → (p : ℕ) (b s : Bool) (old : ℕ) → k ≡ 16 * BV b → l ≡ 32 * BV s
-    → closed (1 ∷ ((w + (k + l)) ∷ (groups p ++ groups old))) ≡ record_bytes (register_changed w p b s old)
-register_closed r p b s old e f = rw (register_marks r b s e f, changed_bytes r p b s old)
+pub register_closed : {w f : ℕ} → Register w → (p : ℕ) (b s : Bool) (old : ℕ) → f ≡ 16 * BV b + 32 * BV s
+    → closed (1 ∷ ((w + f) ∷ (groups p ++ groups old))) ≡ record_bytes (register_changed w p b s old)
+register_closed r p b s old e = rw (register_marks r b s e, changed_bytes r p b s old)
 
-pub as_register : {w k l : ℕ} → Register w → (p : ℕ) (b s : Bool) (old : ℕ) → k ≡ 16 * BV b → l ≡ 32 * BV s
-    → one_value (w + (k + l)) p 0 old ≡ record_bytes (register_changed w p b s old)
+pub as_register : {w f : ℕ} → Register w → (p : ℕ) (b s : Bool) (old : ℕ) → f ≡ 16 * BV b + 32 * BV s
+    → one_value (w + f) p 0 old ≡ record_bytes (register_changed w p b s old)
 unfolding one_value
-as_register {w} r p b s old e f =
-    rw (register_marks r b s e f, changed_bytes r p b s old, (bits (eqb w 1) (eqb w 2) (eqb w 4) false b s).word)
+as_register {w} r p b s old e =
+    rw (register_marks r b s e, changed_bytes r p b s old, (bits (eqb w 1) (eqb w 2) (eqb w 4) false b s).word)
 
 -- ---- one word
 
-pub as_word : {k l q : ℕ} (p : ℕ) (b s : Bool) (place : Place) (old : ℕ) → k ≡ 16 * BV b → l ≡ 32 * BV s → q ≡ place_number place
-    → one_value (8 + (k + l)) p q old ≡ record_bytes (registers_kept p b s (Some (record { place = place; value = old })))
+pub as_word : {f q : ℕ} (p : ℕ) (b s : Bool) (place : Place) (old : ℕ) → f ≡ 16 * BV b + 32 * BV s → q ≡ place_number place
+    → one_value (8 + f) p q old ≡ record_bytes (registers_kept p b s (Some (record { place = place; value = old })))
 unfolding one_value record_in
-as_word {k} {l} p b s place old e f g =
+as_word {f} p b s place old e g =
     let m = bits false false false true b s in
-    let n : 8 + (k + l) ≡ marks_by false false false true b s = omega arith in
+    let n : 8 + f ≡ marks_by false false false true b s = omega arith in
     rw (n, g, m.a, m.x, m.y, m.word, groups_one 1 (omega arith), groups_one (marks_by false false false true b s) (omega (arith, m.few)))

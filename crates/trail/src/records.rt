@@ -1,5 +1,5 @@
 // A record of old values, made whole and then added to the trail (document 01, "The trail").
-ghost use Rattle.std.specs.Prelude.{◌≡◌, cond, ◌*◌, ◌^◌, ◌<◌, ◌≤◌, ◌∷◌, ◌++◌, length, take, Some, None};
+ghost use Rattle.std.specs.Prelude.{◌≡◌, cond, ◌+◌, ◌*◌, ◌^◌, ◌<◌, ◌≤◌, ◌∷◌, ◌++◌, length, take, Some, None};
 ghost use Rattle.report.specs.AnnexA.{BV};
 ghost use Rattle.machine.specs.Held.{where_of};
 ghost use Rattle.trail.specs.Numbers.{groups, Put};
@@ -18,11 +18,11 @@ pub struct Record {
     pub len: usize,
 }
 
-// The weight of a mark that is set; 0 for one that is not.
-fn weight(set: bool, w: u32) -> u32
-    ensures { (result ≡ w * BV set) × (result ≤ w) }
+// The marks that tell the old flags.
+fn flags(b: bool, stop: bool) -> u32
+    ensures { (result ≡ 16 * BV b + 32 * BV stop) × (result ≤ 48) }
 {
-    if set { w } else { 0 }
+    16 * u32::from(b) + 32 * u32::from(stop)
 }
 
 // A value that is marked; 0 for one that is not.
@@ -37,19 +37,13 @@ fn word_place(word: Option<OldWord>) -> u32
     requires { Addressed word }
     ensures { result ≡ word_place word }
 {
-    match word {
-        None => 0,
-        Some(w) => place_number(w.place),
-    }
+    word.map_or(0, |w| place_number(w.place))
 }
 
 fn word_value(word: Option<OldWord>) -> u32
     ensures { result ≡ word_value word }
 {
-    match word {
-        None => 0,
-        Some(w) => w.value,
-    }
+    word.map_or(0, |w| w.value)
 }
 
 // The number of a kind.
@@ -66,12 +60,11 @@ pub fn old_values(kind: Kind, old: Machine, new: Machine, word: Option<OldWord>)
 {
     OldValues {
         kind,
-        marks: weight(old.a != new.a, 1)
-            + weight(old.x != new.x, 2)
-            + weight(old.y != new.y, 4)
-            + weight(word.is_some(), 8)
-            + weight(old.b, 16)
-            + weight(old.stop, 32),
+        marks: u32::from(old.a != new.a)
+            + 2 * u32::from(old.x != new.x)
+            + 4 * u32::from(old.y != new.y)
+            + 8 * u32::from(word.is_some())
+            + flags(old.b, old.stop),
         p: old.p,
         a: value_if(old.a != new.a, old.a),
         x: value_if(old.x != new.x, old.x),
@@ -201,7 +194,7 @@ pub fn add_flags(
     requires { (used ≤ length trail.old) × (p < 2 ^ 20) }
     ensures { (result, trail.new) ≡ added trail.old used (record_bytes (registers_kept p b stop None)) }
 {
-    let marks = weight(b, 16) + weight(stop, 32);
+    let marks = flags(b, stop);
     if p < 128 {
         return add_short(trail, used, 4, marks as u8, p as u8, 3, 0, 0, 0, 0, 0, 0);
     }
@@ -447,7 +440,7 @@ pub fn add_register(
     requires { (used ≤ length trail.old) × (p < 2 ^ 20) × Register w }
     ensures { (result, trail.new) ≡ added trail.old used (record_bytes (register_changed w p b stop old)) }
 {
-    let marks = w + (weight(b, 16) + weight(stop, 32));
+    let marks = w + flags(b, stop);
     if p < 128 {
         return add_with_p_of_one_byte(trail, used, marks as u8, p as u8, old);
     }
@@ -470,12 +463,5 @@ pub fn add_word(
     requires { (used ≤ length trail.old) × (p < 2 ^ 20) × ((where_of place).1 < 2 ^ 20) }
     ensures { (result, trail.new) ≡ added trail.old used (record_bytes (registers_kept p b stop (Some (record { place = place; value = old })))) }
 {
-    add_value(
-        trail,
-        used,
-        8 + (weight(b, 16) + weight(stop, 32)),
-        p,
-        place_number(place),
-        old,
-    )
+    add_value(trail, used, 8 + flags(b, stop), p, place_number(place), old)
 }

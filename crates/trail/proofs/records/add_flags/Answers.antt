@@ -10,7 +10,7 @@ pub returns-then-p-lt128 : goal.returns-then-p-lt128
 returns-then-p-lt128 c =
     let a = c.args in
     adds_kept a.trail.now a.used a.p a.b a.stop
-    (omega (arith, c.weight.ensures.0, c.weight-2.ensures.0))
+    (omega (arith, c.flags-marks.ensures.0))
     (groups_one a.p c.if-p-lt128.true)
     c.add_short.ensures
 
@@ -18,7 +18,7 @@ pub returns-then-p-lt16384 : goal.returns-then-p-lt16384
 returns-then-p-lt16384 c =
     let a = c.args in
     adds_kept a.trail.now a.used a.p a.b a.stop
-    (omega (arith, c.weight.ensures.0, c.weight-2.ensures.0))
+    (omega (arith, c.flags-marks.ensures.0))
     (groups_two c.if-p-lt128.false c.if-p-lt16384.true c.group.ensures)
     c.add_short-then-p-lt16384.ensures
 
@@ -26,6 +26,6 @@ pub returns : goal.returns
 returns c =
     let a = c.args in
     adds_kept a.trail.now a.used a.p a.b a.stop
-    (omega (arith, c.weight.ensures.0, c.weight-2.ensures.0))
+    (omega (arith, c.flags-marks.ensures.0))
     refl
     c.add_marks_and_p.ensures

@@ -6,39 +6,33 @@ use Rattle.trail.specs.Records.{added}
 use Rattle.trail.proofs.ShortRecords.{as_register, register_few, register_closed}
 use Rattle.trail.proofs.records.add_register.Goals as goal
 
-pub overflow_add-marks-2 : goal.overflow_add-marks-2
-overflow_add-marks-2 c = omega (arith, register_few c.requires.2)
+pub overflow_add-marks : goal.overflow_add-marks
+overflow_add-marks c = omega (arith, register_few c.requires.2)
 
 pub overflow_cast-marks : goal.overflow_cast-marks
-overflow_cast-marks c = omega (arith, register_few c.requires.2, c.weight.ensures, c.weight-2.ensures)
+overflow_cast-marks c = omega (arith, register_few c.requires.2, c.flags.ensures)
 
 pub returns-then-p-lt128 : goal.returns-then-p-lt128
 returns-then-p-lt128 c =
     let a = c.args in
-    let k = c.weight.ensures in
-    let l = c.weight-2.ensures in
     c.add_with_p_of_one_byte.ensures
-    ∙ ap (added _ _) (register_closed c.requires.2 a.p a.b a.stop a.old k.0 l.0)
+    ∙ ap (added _ _) (register_closed c.requires.2 a.p a.b a.stop a.old c.flags.ensures.0)
 
 pub overflow_cast-marks-then-p-lt16384 : goal.overflow_cast-marks-then-p-lt16384
-overflow_cast-marks-then-p-lt16384 c = omega (arith, register_few c.requires.2, c.weight.ensures, c.weight-2.ensures)
+overflow_cast-marks-then-p-lt16384 c = omega (arith, register_few c.requires.2, c.flags.ensures)
 
 pub returns-then-p-lt16384 : goal.returns-then-p-lt16384
 returns-then-p-lt16384 c =
     let a = c.args in
-    let k = c.weight.ensures in
-    let l = c.weight-2.ensures in
     c.add_with_p_of_two_bytes.ensures
-    ∙ ap (added _ _) (register_closed c.requires.2 a.p a.b a.stop a.old k.0 l.0)
+    ∙ ap (added _ _) (register_closed c.requires.2 a.p a.b a.stop a.old c.flags.ensures.0)
 
 pub add_value-requires : goal.add_value-requires
 add_value-requires c =
-    omega (arith, c.requires, register_few c.requires.2, c.weight.ensures, c.weight-2.ensures)
+    omega (arith, c.requires, register_few c.requires.2, c.flags.ensures)
 
 pub returns : goal.returns
 returns c =
     let a = c.args in
-    let k = c.weight.ensures in
-    let l = c.weight-2.ensures in
     c.add_value.ensures
-    ∙ ap (added _ _) (as_register c.requires.2 a.p a.b a.stop a.old k.0 l.0)
+    ∙ ap (added _ _) (as_register c.requires.2 a.p a.b a.stop a.old c.flags.ensures.0)

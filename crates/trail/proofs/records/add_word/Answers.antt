@@ -12,15 +12,12 @@ use Rattle.trail.proofs.records.add_word.Goals as goal
 pub add_value-requires : goal.add_value-requires
 add_value-requires c =
     let a = c.args in
-    let k = c.weight.ensures in
-    let l = c.weight-2.ensures in
+    let k = c.flags.ensures in
     let q : place_number a.place < 2 ^ 21 = good_place (Some (record { place = a.place; value = a.old })) c.requires.2 in
-    (omega arith, omega (arith, k, l), omega arith, omega (arith, c.place_number.ensures))
+    (omega arith, omega (arith, k), omega arith, omega (arith, c.place_number.ensures))
 
 pub returns : goal.returns
 returns c =
     let a = c.args in
-    let k = c.weight.ensures in
-    let l = c.weight-2.ensures in
     c.add_value.ensures
-    ∙ ap (added _ _) (as_word a.p a.b a.stop a.place a.old k.0 l.0 c.place_number.ensures)
+    ∙ ap (added _ _) (as_word a.p a.b a.stop a.place a.old c.flags.ensures.0 c.place_number.ensures)
