@@ -93,19 +93,17 @@ fn fill(bytes: &mut [u8; 28], o: OldValues) -> usize
 }
 
 // Copies a record right after the bytes in use. It is the only function that writes a byte of the trail.
-fn copy(trail: &mut [u8], used: usize, bytes: &[u8; 28], n: usize) -> Result<usize, TrailFull>
-    requires { (used ≤ length trail.old) × (n ≤ 28) × (length bytes.now ≡ 28) }
-    ensures { (result, trail.new) ≡ added trail.old used (take n bytes.now) }
+#[tactic(auto, unfolding(crate::specs::Records::added))]
+fn copy(trail: &mut [u8], used: usize, record: &[u8]) -> Result<usize, TrailFull>
+    requires { used ≤ length trail.old }
+    ensures { (result, trail.new) ≡ added trail.old used record.now }
 {
-    if trail.len() - used < n {
+    if trail.len() - used < record.len() {
         return Err(TrailFull);
     }
-    let mut i = 0;
-    while i < n {
-        trail[used + i] = bytes[i];
-        i += 1;
-    }
-    Ok(used + n)
+    let next = used + record.len();
+    trail[used..next].copy_from_slice(record);
+    Ok(next)
 }
 
 // Adds the record of old values whose bytes before L are at most 27: only a word beside all three registers, each with its longest number, has
@@ -119,7 +117,7 @@ pub fn add(trail: &mut [u8], used: usize, o: OldValues) -> Result<usize, TrailFu
         len: 0,
     };
     r.len = fill(&mut r.bytes, o);
-    copy(trail, used, &r.bytes, r.len)
+    copy(trail, used, &r.bytes[..r.len])
 }
 
 // The records of steps, which change at most one register or one word. What they add is what `add` would; most are short, and those are made
@@ -155,7 +153,7 @@ fn add_short(
     bytes[8] = b7;
     bytes[9] = b8;
     let r = Record { bytes, len };
-    copy(trail, used, &r.bytes, r.len)
+    copy(trail, used, &r.bytes[..r.len])
 }
 
 // Puts the bytes of a record with no value, L last, and answers their count.
@@ -180,7 +178,7 @@ fn add_marks_and_p(trail: &mut [u8], used: usize, marks: u32, p: u32) -> Result<
         len: 0,
     };
     r.len = fill_marks_and_p(&mut r.bytes, marks, p);
-    copy(trail, used, &r.bytes, r.len)
+    copy(trail, used, &r.bytes[..r.len])
 }
 
 // Adds the record of an operation that changed no register and no word.
@@ -248,7 +246,7 @@ fn add_value(
         len: 0,
     };
     r.len = fill_value(&mut r.bytes, marks, p, place, v);
-    copy(trail, used, &r.bytes, r.len)
+    copy(trail, used, &r.bytes[..r.len])
 }
 
 // Adds a record of the marks, a P of one byte and a value: n bytes hold what is below the n-th power of 128. The low groups are written out for

@@ -6,10 +6,10 @@ use Rattle.trail.specs.Records.{added}
 use Rattle.trail.proofs.Lengths.{record_count}
 use Rattle.trail.proofs.records.add.Goals as goal
 
-pub copy-requires : goal.copy-requires
-copy-requires c =
+pub slice_bounds-copy-end : goal.slice_bounds-copy-end
+slice_bounds-copy-end c =
     let f = c.fill.ensures in
-    (omega arith, omega (arith, f.place, record_count c.args.o, c.requires.2), f.size)
+    omega (arith, f.place, record_count c.args.o, c.requires.2)
 
 pub returns : goal.returns
 returns c =

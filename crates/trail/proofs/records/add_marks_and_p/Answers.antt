@@ -6,10 +6,10 @@ use Rattle.trail.specs.Records.{added}
 use Rattle.trail.proofs.Lengths.{p_fits}
 use Rattle.trail.proofs.records.add_marks_and_p.Goals as goal
 
-pub copy-requires : goal.copy-requires
-copy-requires c =
+pub slice_bounds-copy-end : goal.slice_bounds-copy-end
+slice_bounds-copy-end c =
     let f = c.fill_marks_and_p.ensures in
-    (omega arith, omega (arith, f.place, p_fits c.args.marks c.requires.2), f.size)
+    omega (arith, f.place, p_fits c.args.marks c.requires.2)
 
 pub returns : goal.returns
 returns c =

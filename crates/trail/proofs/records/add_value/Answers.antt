@@ -6,11 +6,11 @@ use Rattle.trail.specs.Records.{added}
 use Rattle.trail.proofs.Lengths.{value_sizes, value_fits}
 use Rattle.trail.proofs.records.add_value.Goals as goal
 
-pub copy-requires : goal.copy-requires
-copy-requires c =
+pub slice_bounds-copy-end : goal.slice_bounds-copy-end
+slice_bounds-copy-end c =
     let f = c.fill_value.ensures in
     let z = value_sizes c.args.marks {v = c.args.v} c.requires.2 c.requires.3 (omega arith) in
-    (omega arith, omega (arith, f.place, value_fits z), f.size)
+    omega (arith, f.place, value_fits z)
 
 pub returns : goal.returns
 returns c =
