@@ -1,4 +1,5 @@
 // The 1,024 classes (document 01): what kind of instruction the ten bits 29-20 of a word make it.
+// A class is a number, and the table a constant of numbers, as document 01 has them:
 // 0 comparison, 1 always halts, 2 main write, 3 port write, 4 5 6 destination A X Y, 7 destination P always, 8 if B, 9 if not B.
 ghost use Rattle.std.specs.Prelude.{◌≡◌};
 ghost use Rattle.instruction.specs.Classes.{Classified, class_of_word};

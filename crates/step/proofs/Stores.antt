@@ -1,4 +1,4 @@
--- A place of the code and the report's io signal and address name the same word; a fitted place is below its store's length.
+-- What is to be written has a lawful place and value; and the change finished, by the record that was added.
 -- Assumes nothing.
 use mathlib.Core.Path.{◌≡◌}
 use mathlib.Core.Bool.{Bool, true, false, cond}
@@ -6,15 +6,10 @@ use mathlib.Core.List.{List}
 use Prim.Native.Nat.{ℕ, ◌<◌, ◌^◌}
 use native.Mathlib.Omega.{arith}
 use lib.Dec.{eqb}
-use lib.ListN.{length, get_or, set}
-use borrow.Author.Tests.{ltb-true}
+use lib.ListN.{get_or}
 use Rattle.report.specs.AnnexA.{Mem}
-use Rattle.report.specs.Parts.{Where, fitted, word_at, with_word}
+use Rattle.report.specs.Parts.{Where, word_at}
 use Rattle.machine.specs.Held.{ram, where_of}
-use Rattle.machine.specs.declared.Place.{Place}
-use Rattle.machine.specs.declared.Place.TheVariants.{Main, Port}
-use Rattle.machine.specs.declared.MainAddress.{MainAddress}
-use Rattle.machine.specs.declared.PortNumber.{PortNumber}
 use Rattle.machine.specs.declared.Machine.{Machine}
 use Rattle.trail.specs.declared.Kind.{Kind}
 use Rattle.trail.specs.Records as records
@@ -24,32 +19,7 @@ use Rattle.trail.specs.Records.{Word}
 use Rattle.std.specs.Prelude.{Some, None, Result, Ok, Err}
 use Rattle.step.specs.Phases as written
 use Rattle.step.specs.Phases.{Written, Change}
-use Rattle.step.specs.Finishing.{Fitted, Addressed, changing, rewritten, left, finished}
-
-module _ (main ports : List ℕ) (q : Place) where
-  pub main_fits : (n : MainAddress) → q ≡ Main n → Fitted (ram main ports) (where_of q) → n.0 < length main
-  unfolding fitted
-  main_fits n e h = ltb-true n.0 (length main) (rw e at h.has)
-
-  pub port_fits : (n : PortNumber) → q ≡ Port n → Fitted (ram main ports) (where_of q) → n.0 < length ports
-  unfolding fitted
-  port_fits n e h = ltb-true n.0 (length ports) (rw e at h.has)
-
-  pub main_word : (n : MainAddress) → q ≡ Main n → get_or main n.0 0 ≡ word_at (ram main ports) (where_of q)
-  unfolding word_at
-  main_word n e = rw e
-
-  pub port_word : (n : PortNumber) → q ≡ Port n → get_or ports n.0 0 ≡ word_at (ram main ports) (where_of q)
-  unfolding word_at
-  port_word n e = rw e
-
-  pub main_put : (n : MainAddress) (v : ℕ) → q ≡ Main n → ram (set main n.0 v) ports ≡ with_word (ram main ports) (where_of q) v
-  unfolding with_word
-  main_put n v e = rw e
-
-  pub port_put : (n : PortNumber) (v : ℕ) → q ≡ Port n → ram main (set ports n.0 v) ≡ with_word (ram main ports) (where_of q) v
-  unfolding with_word
-  port_put n v e = rw e
+use Rattle.step.specs.Finishing.{Addressed, changing, rewritten, left, finished}
 
 -- ---- what is to be written
 

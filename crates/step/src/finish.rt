@@ -1,5 +1,6 @@
 // The last phase, which alone writes: the record goes to the trail, and then the word to its store (document 01, "The trail").
-// A step changes at most one register or one word, and each kind has its finish.
+// A step changes at most one register or one word, and each kind has its finish. What a step changes comes to its finish in pieces: as one value
+// it went through memory and cost a third of the time (docs/DECISIONS.md, "The form of the code").
 ghost use Rattle.std.specs.Prelude.{◌≡◌, false, List, ℕ, ◌≤◌, ◌<◌, ◌^◌, length, set};
 ghost use Rattle.report.specs.AnnexA.{Mem};
 ghost use Rattle.report.specs.Parts.{fitted, word_at, with_word};
@@ -39,6 +40,7 @@ impl From<TrailFull> for Undone {
 }
 
 // Whether a place is fitted.
+#[tactic(auto, unfolding(report::specs::Parts::fitted))]
 pub(crate) fn is_fitted(main: &[u32], ports: &[u32], place: Place) -> bool
     ensures { result ≡ fitted (ram main.now ports.now) (where_of place) }
 {
@@ -49,6 +51,7 @@ pub(crate) fn is_fitted(main: &[u32], ports: &[u32], place: Place) -> bool
 }
 
 // The word at a fitted place.
+#[tactic(auto, unfolding(report::specs::Parts::fitted, report::specs::Parts::word_at))]
 pub fn word_at(main: &[u32], ports: &[u32], place: Place) -> u32
     requires { Fitted (ram main.now ports.now) (where_of place) }
     ensures { result ≡ word_at (ram main.now ports.now) (where_of place) }
@@ -66,6 +69,7 @@ pub fn word_at(main: &[u32], ports: &[u32], place: Place) -> u32
 }
 
 // Puts a value at a fitted place. No other function writes a word of a store.
+#[tactic(auto, unfolding(report::specs::Parts::fitted, report::specs::Parts::with_word))]
 pub fn put_word(main: &mut [u32], ports: &mut [u32], place: Place, value: u32)
     requires { Fitted (ram main.old ports.old) (where_of place) }
     ensures { ram main.new ports.new ≡ with_word (ram main.old ports.old) (where_of place) value }

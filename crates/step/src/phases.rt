@@ -103,15 +103,7 @@ fn deliver(
     ensures { Kept result sources.old sources.new × (ended (came result sources.new) (ram main.now ports.now) trail.new ≡ once (held sources.old p b false) (ram main.now ports.now) trail.old used) }
 {
     let next = p + 1;
-    // Set on both ways that lead to a register.
-    let mut d = Delivery {
-        to: 2,
-        value: next,
-        p: next,
-        b,
-        stop: false,
-    };
-    if class >= 7 {
+    let d = if class >= 7 {
         if (class == 8) & !b {
             return finish_flags(p, b, next, b, false, trail, used);
         }
@@ -125,13 +117,13 @@ fn deliver(
                 if f.fsf != 1 {
                     return finish_flags(p, b, t.value % 0x10_0000, t.b, t.stop, trail, used);
                 }
-                d = Delivery {
+                Delivery {
                     to: 2,
                     value: next,
                     p: t.value % 0x10_0000,
                     b: t.b,
                     stop: t.stop,
-                };
+                }
             }
             Err(NoOperand::Bad) => {
                 return finish_flags(p, b, next, b, true, trail, used);
@@ -145,13 +137,13 @@ fn deliver(
         match o {
             Ok(v) => {
                 let t = word::alu_register(f.fsf, f.msf, r, v, b);
-                d = Delivery {
+                Delivery {
                     to: f.dsf,
                     value: t.value,
                     p: next,
                     b: t.b,
                     stop: t.stop,
-                };
+                }
             }
             Err(NoOperand::Bad) => {
                 return finish_flags(p, b, next, b, true, trail, used);
@@ -160,7 +152,7 @@ fn deliver(
                 return Err(Undone::Unfitted);
             }
         }
-    }
+    };
     finish_register(sources, d.to, p, b, d.value, d.p, d.b, d.stop, trail, used)
 }
 
