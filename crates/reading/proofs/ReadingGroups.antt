@@ -11,9 +11,8 @@ use lib.Dec.{ltb, eqb}
 use lib.ListN.{length, get_or}
 use lib.Seq.{slice, slice-cons, length-slice}
 use borrow.Author.Tests.{ltb-true, ltb-false, lt-ltb, le-ltb, eq-eqb, ne_eqb}
-use Rattle.reading.specs.declared.numbers.Number.TheVariants.{Got, Broken}
 use Rattle.trail.specs.Numbers.{Read, got, broken, over, read_in, below, read_below}
-use Rattle.reading.specs.Finding.{number_of}
+use Rattle.reading.specs.Finding.{number_of, read_broken, read_up_to}
 use Rattle.trail.proofs.NumbersReadBack.{cap, cap_low}
 
 -- ---- one turn of read-in
@@ -72,25 +71,25 @@ read_last s end fits k next h l =
     rw (slice-cons next end s 0 h fits, read_one k (get_or s next 0) (slice (suc next) end s) l, add-one)
 
 -- A last group of 0, or a number that is not below the bound.
-last_broken : (end bound low n : ℕ) (rest : List ℕ) → (0 < n → bound ≤ low + 128 * n) → Broken ≡ number_of end (below bound (over low (got n rest)))
+last_broken : (end bound low n : ℕ) (rest : List ℕ) → (0 < n → bound ≤ low + 128 * n) → read_broken ≡ number_of end (below bound (over low (got n rest)))
 last_broken end bound low zero rest q = refl
 last_broken end bound low (suc n) rest q = rw (ne_eqb (suc n) 0 (omega arith), le-ltb (low + 128 * suc n) bound (q (omega arith)))
 
 -- ---- the first groups
 
 module _ (s : List ℕ) (at end bound : ℕ) (fits : end ≤ length s) where
-  pub no_group : end ≤ at → Broken ≡ number_of end (read_below bound (slice at end s))
+  pub no_group : end ≤ at → read_broken ≡ number_of end (read_below bound (slice at end s))
   no_group h = rw (no_bytes (slice at end s) (length-slice at end s fits ∙ omega arith))
 
-  pub one_group : at < end → get_or s at 0 < 128 → get_or s at 0 < bound → Got (get_or s at 0) (at + 1) ≡ number_of end (read_below bound (slice at end s))
+  pub one_group : at < end → get_or s at 0 < 128 → get_or s at 0 < bound → read_up_to (get_or s at 0) (at + 1) ≡ number_of end (read_below bound (slice at end s))
   one_group h l b =
       rw (slice-cons at end s 0 h fits, lt-ltb (get_or s at 0) 128 l, lt-ltb (get_or s at 0) bound b, ← add-one at, place_left s (at + 1) end (omega arith) fits)
 
-  pub one_too_large : at < end → get_or s at 0 < 128 → bound ≤ get_or s at 0 → Broken ≡ number_of end (read_below bound (slice at end s))
+  pub one_too_large : at < end → get_or s at 0 < 128 → bound ≤ get_or s at 0 → read_broken ≡ number_of end (read_below bound (slice at end s))
   one_too_large h l b = rw (slice-cons at end s 0 h fits, lt-ltb (get_or s at 0) 128 l, le-ltb (get_or s at 0) bound b)
 
   -- Two groups or more come to 128 or more.
-  pub small_bound : at < end → 128 ≤ get_or s at 0 → get_or s at 0 < 256 → bound ≤ 128 → Broken ≡ number_of end (read_below bound (slice at end s))
+  pub small_bound : at < end → 128 ≤ get_or s at 0 → get_or s at 0 < 256 → bound ≤ 128 → read_broken ≡ number_of end (read_below bound (slice at end s))
   small_bound h l b q =
       rw (slice-cons at end s 0 h fits, le-ltb (get_or s at 0) 128 l, lt-ltb (get_or s at 0) 256 b, over_large bound (get_or s at 0 - 128) (read_in 3 (slice (suc at) end s)) q)
 
@@ -99,13 +98,13 @@ module _ (s : List ℕ) (at end bound : ℕ) (fits : end ≤ length s) where
   more_groups h l b = rw (slice-cons at end s 0 h fits, le-ltb (get_or s at 0) 128 l, lt-ltb (get_or s at 0) 256 b, add-one)
 
   pub two_groups : at + 1 < end → 128 ≤ get_or s at 0 → get_or s at 0 < 256 → 0 < get_or s (at + 1) 0 → get_or s (at + 1) 0 < 128 → get_or s at 0 - 128 + 128 * get_or s (at + 1) 0 < bound
-      → Got (get_or s at 0 - 128 + 128 * get_or s (at + 1) 0) (at + 2) ≡ number_of end (read_below bound (slice at end s))
+      → read_up_to (get_or s at 0 - 128 + 128 * get_or s (at + 1) 0) (at + 2) ≡ number_of end (read_below bound (slice at end s))
   two_groups h l b z c q =
       let m = get_or s at 0 - 128 in
       let n = get_or s (at + 1) 0 in
       let r = slice (at + 1 + 1) end s in
       let place : end - length r ≡ at + 2 = place_left s (at + 1 + 1) end (omega arith) fits ∙ omega arith in
-      let two : number_of end (below bound (over m (got n r))) ≡ Got (m + 128 * n) (at + 2) = rw (ne_eqb n 0 (omega arith), lt-ltb (m + 128 * n) bound q, place) in
+      let two : number_of end (below bound (over m (got n r))) ≡ read_up_to (m + 128 * n) (at + 2) = rw (ne_eqb n 0 (omega arith), lt-ltb (m + 128 * n) bound q, place) in
       sym two
       ∙ ap (λ (x : Read). number_of end (below bound (over m x))) (sym (read_last s end fits 3 (at + 1) h c))
       ∙ more_groups (omega arith) l b
@@ -113,7 +112,7 @@ module _ (s : List ℕ) (at end bound : ℕ) (fits : end ≤ length s) where
   -- The second group is the last, and it is 0 or the number is not below the bound.
   pub two_broken : at + 1 < end → 128 ≤ get_or s at 0 → get_or s at 0 < 256 → get_or s (at + 1) 0 < 128
       → (0 < get_or s (at + 1) 0 → bound ≤ get_or s at 0 - 128 + 128 * get_or s (at + 1) 0)
-      → Broken ≡ number_of end (read_below bound (slice at end s))
+      → read_broken ≡ number_of end (read_below bound (slice at end s))
   two_broken h l b c q =
       let m = get_or s at 0 - 128 in
       last_broken end bound m (get_or s (at + 1) 0) (slice (at + 1 + 1) end s) q
@@ -122,7 +121,7 @@ module _ (s : List ℕ) (at end bound : ℕ) (fits : end ≤ length s) where
 
   pub three_groups : at + 2 < end → 128 ≤ get_or s at 0 → get_or s at 0 < 256 → 128 ≤ get_or s (at + 1) 0 → get_or s (at + 1) 0 < 256 → 0 < get_or s (at + 2) 0 → get_or s (at + 2) 0 < 128
       → get_or s at 0 - 128 + 128 * (get_or s (at + 1) 0 - 128) + 16384 * get_or s (at + 2) 0 < bound
-      → Got (get_or s at 0 - 128 + 128 * (get_or s (at + 1) 0 - 128) + 16384 * get_or s (at + 2) 0) (at + 3) ≡ number_of end (read_below bound (slice at end s))
+      → read_up_to (get_or s at 0 - 128 + 128 * (get_or s (at + 1) 0 - 128) + 16384 * get_or s (at + 2) 0) (at + 3) ≡ number_of end (read_below bound (slice at end s))
   three_groups h l b l₂ b₂ z c q =
       let m = get_or s at 0 - 128 in
       let n = get_or s (at + 1) 0 - 128 in
@@ -137,7 +136,7 @@ module _ (s : List ℕ) (at end bound : ℕ) (fits : end ≤ length s) where
       ∙ read_over 3 (get_or s (at + 1) 0) (slice (at + 2) end s) l₂ b₂ (omega arith)
       ∙ ap (over n) (read_last s end fits 2 (at + 2) h c)
       in
-      let three : number_of end (below bound (over m (over n (got o r)))) ≡ Got (m + 128 * n + 16384 * o) (at + 3) =
+      let three : number_of end (below bound (over m (over n (got o r)))) ≡ read_up_to (m + 128 * n + 16384 * o) (at + 3) =
       rw (ne_eqb o 0 (omega arith), ne_eqb (n + 128 * o) 0 (omega arith), value, lt-ltb (m + 128 * n + 16384 * o) bound q, place)
       in
       sym three ∙ ap (λ (x : Read). number_of end (below bound (over m x))) (sym later) ∙ more_groups (omega arith) l b
@@ -226,19 +225,19 @@ module _ {s : List ℕ} {at end first next low scale : ℕ} (g : Reading s at en
   last : (bound : ℕ) → bound ≤ cap 4 → next < end → get_or s next 0 < 128 → below bound (over first (read_in 3 (slice at end s))) ≡ below bound (scaled scale low (got (get_or s next 0) (slice (next + 1) end s)))
   last bound q h l = so_far bound q ∙ ap (λ (r : Read). below bound (scaled scale low r)) (read_last s end g.fits g.k next h l)
 
-  pub ran_out : (bound : ℕ) → bound ≤ cap 4 → end ≤ next → Broken ≡ number_of end (below bound (over first (read_in 3 (slice at end s))))
+  pub ran_out : (bound : ℕ) → bound ≤ cap 4 → end ≤ next → read_broken ≡ number_of end (below bound (over first (read_in 3 (slice at end s))))
   ran_out bound q h = rw (so_far bound q, no_bytes (slice next end s) (length-slice next end s g.fits ∙ omega arith), read_none g.k)
 
-  pub one_more : (bound : ℕ) → bound ≤ cap 4 → bound ≤ scale → Broken ≡ number_of end (below bound (over first (read_in 3 (slice at end s))))
+  pub one_more : (bound : ℕ) → bound ≤ cap 4 → bound ≤ scale → read_broken ≡ number_of end (below bound (over first (read_in 3 (slice at end s))))
   one_more bound q h = rw (so_far bound q, scaled_large bound scale low (read_in g.k (slice next end s)) h)
 
-  pub too_many : (bound : ℕ) → bound ≤ cap 4 → next < end → get_or s next 0 < 128 → get_or s next 0 ≡ 0 → Broken ≡ number_of end (below bound (over first (read_in 3 (slice at end s))))
+  pub too_many : (bound : ℕ) → bound ≤ cap 4 → next < end → get_or s next 0 < 128 → get_or s next 0 ≡ 0 → read_broken ≡ number_of end (below bound (over first (read_in 3 (slice at end s))))
   too_many bound q h l z = rw (last bound q h l, eq-eqb (get_or s next 0) 0 z)
 
-  pub too_large : (bound : ℕ) → bound ≤ cap 4 → next < end → get_or s next 0 < 128 → (get_or s next 0 ≡ 0 → ⊥) → bound ≤ low + scale * get_or s next 0 → Broken ≡ number_of end (below bound (over first (read_in 3 (slice at end s))))
+  pub too_large : (bound : ℕ) → bound ≤ cap 4 → next < end → get_or s next 0 < 128 → (get_or s next 0 ≡ 0 → ⊥) → bound ≤ low + scale * get_or s next 0 → read_broken ≡ number_of end (below bound (over first (read_in 3 (slice at end s))))
   too_large bound q h l z b = rw (last bound q h l, ne_eqb (get_or s next 0) 0 z, le-ltb (low + scale * get_or s next 0) bound b)
 
-  pub ends : (bound : ℕ) → bound ≤ cap 4 → next < end → get_or s next 0 < 128 → (get_or s next 0 ≡ 0 → ⊥) → low + scale * get_or s next 0 < bound → Got (low + scale * get_or s next 0) (next + 1) ≡ number_of end (below bound (over first (read_in 3 (slice at end s))))
+  pub ends : (bound : ℕ) → bound ≤ cap 4 → next < end → get_or s next 0 < 128 → (get_or s next 0 ≡ 0 → ⊥) → low + scale * get_or s next 0 < bound → read_up_to (low + scale * get_or s next 0) (next + 1) ≡ number_of end (below bound (over first (read_in 3 (slice at end s))))
   ends bound q h l z b =
       rw (last bound q h l, ne_eqb (get_or s next 0) 0 z, lt-ltb (low + scale * get_or s next 0) bound b, place_left s (next + 1) end (omega arith) g.fits)
 

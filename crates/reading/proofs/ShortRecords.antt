@@ -12,27 +12,26 @@ use lib.Dec.{ltb, eqb}
 use lib.ListN.{length, get_or}
 use lib.Seq.{slice, slice-cons, length-slice}
 use borrow.Author.Tests.{ltb-true, ltb-false, lt-ltb, le-ltb, eqb-true, eqb-false, eq-eqb, ne_eqb}
+use Rattle.std.specs.Prelude.{Result, Ok, Err}
 use Rattle.report.specs.AnnexA.{BV}
 use Rattle.trail.specs.declared.OldValues.{OldValues}
 use Rattle.trail.specs.declared.Newest.{Newest}
-use Rattle.trail.specs.declared.Newest.TheVariants as newest
+use Rattle.trail.specs.declared.Broken.{Broken as BrokenType}
 use Rattle.trail.specs.Numbers.{Read, got, broken, over, read_in, below, read_below, read_if}
-use Rattle.trail.specs.Records.{marked}
-use Rattle.trail.specs.Newest.{and_then, at_end, read_from_marks, read_in_form, leaving, before_L, newest_in, newest as newest_of, only_fitted, newest_fitted}
+use Rattle.trail.specs.declared.Kind.{Kind}
+use Rattle.trail.specs.Records.{marked, kind_read}
+use Rattle.trail.specs.Newest.{and_then, at_end, read_from_marks, read_in_form, leaving, broken_record, before_L, newest_in, newest as newest_of, only_fitted, newest_fitted}
 use Rattle.trail.proofs.NewestReadsBack.{too_short}
-use Rattle.reading.specs.declared.numbers.Number.{Number}
-use Rattle.reading.specs.declared.numbers.Number.TheVariants.{Got, Broken}
-use Rattle.reading.specs.declared.short.Pair.{Pair}
-use Rattle.reading.specs.declared.short.Pair.TheVariants as pair
+use Rattle.reading.specs.declared.short.Marked.{Marked}
+use Rattle.reading.specs.declared.short.Marked.TheVariants as mark_of
 use Rattle.reading.specs.declared.short.ShortRecord.{ShortRecord}
-use Rattle.reading.specs.declared.short.ShortRecord.TheVariants as short
-use Rattle.reading.specs.Finding.{number_of, after_kind, Holds, Marked, Says, TwoBytes, with_value}
+use Rattle.reading.specs.Finding.{Number, number_of, read_broken, read_up_to, after_kind, Holds, MarksAlone, MarksAt, Tells, TwoBytes, registers, unmarked, short_record, with_value}
 use Rattle.reading.proofs.ReadingGroups.{no_bytes}
-use Rattle.reading.proofs.ReadingNumbers.{first_byte, is_got, is_broken}
+use Rattle.reading.proofs.ReadingNumbers.{kind_known, kind_small, first_byte, is_got, is_broken}
 
 -- ---- the numbers after P, by what is marked
 
-abbrev after_p : ℕ → ℕ → ℕ → Bool → Bool → Bool → Bool → List ℕ → Option OldValues
+abbrev after_p : Kind → ℕ → ℕ → Bool → Bool → Bool → Bool → List ℕ → Option OldValues
 after_p kind m p ta tx ty tw s =
     and_then (read_if ta (2 ^ 32) s) (λ a s₃.
     and_then (read_if tx (2 ^ 32) s₃) (λ x s₄.
@@ -41,13 +40,13 @@ after_p kind m p ta tx ty tw s =
     and_then (read_if tw (2 ^ 32) s₆) (λ value s₇.
     at_end s₇ (record { kind = kind; marks = m; p = p; a = a; x = x; y = y; place = place; value = value }))))))
 
-abbrev from_p : ℕ → ℕ → ℕ → List ℕ → Option OldValues
+abbrev from_p : Kind → ℕ → ℕ → List ℕ → Option OldValues
 from_p kind m p s = after_p kind m p (marked 1 m) (marked 2 m) (marked 4 m) (marked 8 m) s
 
-marks_first : (kind m : ℕ) (s : List ℕ) → m < 64 → read_from_marks kind (2 ^ 21) (m ∷ s) ≡ and_then (read_below (2 ^ 20) s) (from_p kind m)
+marks_first : (kind : Kind) (m : ℕ) (s : List ℕ) → m < 64 → read_from_marks kind (2 ^ 21) (m ∷ s) ≡ and_then (read_below (2 ^ 20) s) (from_p kind m)
 marks_first kind m s h = rw (first_byte 64 m s (omega arith), lt-ltb m 64 h)
 
-marks_large : (kind m : ℕ) (s : List ℕ) → 64 ≤ m → read_from_marks kind (2 ^ 21) (m ∷ s) ≡ none
+marks_large : (kind : Kind) (m : ℕ) (s : List ℕ) → 64 ≤ m → read_from_marks kind (2 ^ 21) (m ∷ s) ≡ none
 marks_large kind m s h = rw (first_byte 64 m s (omega arith), le-ltb m 64 h)
 
 -- What is marked, by the four marks.
@@ -99,7 +98,7 @@ both bound b c h f z = rw (le-ltb b 128 h) (go (ltb b 256) (ltb c 128) (ltb c 25
 -- ---- no byte is left after P
 
 -- Where something is marked, it is missing.
-missing : (kind m p : ℕ) → (m % 16 ≡ 0 → ⊥) → from_p kind m p [] ≡ none
+missing : (kind : Kind) (m p : ℕ) → (m % 16 ≡ 0 → ⊥) → from_p kind m p [] ≡ none
 missing kind m p h = go (marked 1 m) (marked 2 m) (marked 4 m) (marked 8 m) refl refl refl refl
   where
     go : (ta tx ty tw : Bool) → marked 1 m ≡ ta → marked 2 m ≡ tx → marked 4 m ≡ ty → marked 8 m ≡ tw → after_p kind m p ta tx ty tw [] ≡ none
@@ -110,12 +109,12 @@ missing kind m p h = go (marked 1 m) (marked 2 m) (marked 4 m) (marked 8 m) refl
     go false false false false a x y w = absurd (h (weights m a x y w))
 
 -- Where nothing is marked, the record ends with P.
-plain : (kind m p : ℕ) (s : List ℕ) → m % 16 ≡ 0 → from_p kind m p s ≡ at_end s (record { kind = kind; marks = m; p = p; a = 0; x = 0; y = 0; place = 0; value = 0 })
+plain : (kind : Kind) (m p : ℕ) (s : List ℕ) → m % 16 ≡ 0 → from_p kind m p s ≡ at_end s (unmarked kind m p)
 plain kind m p s h = rw (ne_eqb (m / 1 % 2) 1 (omega arith), ne_eqb (m / 2 % 2) 1 (omega arith), ne_eqb (m / 4 % 2) 1 (omega arith), ne_eqb (m / 8 % 2) 1 (omega arith))
 
 -- ---- one byte is left after P
 
-module _ (kind m p c : ℕ) where
+module _ (kind : Kind) (m p c : ℕ) where
   -- What is marked lacks its next byte.
   lacking : 128 ≤ c → (m % 16 ≡ 0 → ⊥) → from_p kind m p (c ∷ []) ≡ none
   lacking l h = go (marked 1 m) (marked 2 m) (marked 4 m) (marked 8 m) refl refl refl refl
@@ -128,13 +127,13 @@ module _ (kind m p c : ℕ) where
       go false false false false a x y w = absurd (h (weights m a x y w))
 
   module _ (l : c < 128) where
-    a_left : m % 16 ≡ 1 → from_p kind m p (c ∷ []) ≡ some (record { kind = kind; marks = m; p = p; a = c; x = 0; y = 0; place = 0; value = 0 })
+    a_left : m % 16 ≡ 1 → from_p kind m p (c ∷ []) ≡ some (registers kind m p c 0 0)
     a_left h = rw (eq-eqb (m / 1 % 2) 1 (omega arith), ne_eqb (m / 2 % 2) 1 (omega arith), ne_eqb (m / 4 % 2) 1 (omega arith), ne_eqb (m / 8 % 2) 1 (omega arith), one (2 ^ 32) c [] l (omega arith))
 
-    x_left : m % 16 ≡ 2 → from_p kind m p (c ∷ []) ≡ some (record { kind = kind; marks = m; p = p; a = 0; x = c; y = 0; place = 0; value = 0 })
+    x_left : m % 16 ≡ 2 → from_p kind m p (c ∷ []) ≡ some (registers kind m p 0 c 0)
     x_left h = rw (ne_eqb (m / 1 % 2) 1 (omega arith), eq-eqb (m / 2 % 2) 1 (omega arith), ne_eqb (m / 4 % 2) 1 (omega arith), ne_eqb (m / 8 % 2) 1 (omega arith), one (2 ^ 32) c [] l (omega arith))
 
-    y_left : m % 16 ≡ 4 → from_p kind m p (c ∷ []) ≡ some (record { kind = kind; marks = m; p = p; a = 0; x = 0; y = c; place = 0; value = 0 })
+    y_left : m % 16 ≡ 4 → from_p kind m p (c ∷ []) ≡ some (registers kind m p 0 0 c)
     y_left h = rw (ne_eqb (m / 1 % 2) 1 (omega arith), ne_eqb (m / 2 % 2) 1 (omega arith), eq-eqb (m / 4 % 2) 1 (omega arith), ne_eqb (m / 8 % 2) 1 (omega arith), one (2 ^ 32) c [] l (omega arith))
 
     -- A word or two registers do not go into one byte.
@@ -156,7 +155,7 @@ module _ (kind m p c : ℕ) where
 
 -- ---- the k bytes after the kind, whose first is the marks m
 
-module _ (kind : ℕ) (s : List ℕ) (end k m : ℕ) (some_bytes : 2 ≤ k) (inside : k + 1 ≤ end) (fits : end < length s) (first : get_or s (end - k) 0 ≡ m) where
+module _ (kind : Kind) (s : List ℕ) (end k m : ℕ) (some_bytes : 2 ≤ k) (inside : k + 1 ≤ end) (fits : end < length s) (first : get_or s (end - k) 0 ≡ m) where
   abbrev tail : List ℕ
   tail = slice (end - k + 1) end s
 
@@ -164,37 +163,37 @@ module _ (kind : ℕ) (s : List ℕ) (end k m : ℕ) (some_bytes : 2 ≤ k) (ins
   by_marks =
       rw (slice-cons (end - k) end s 0 (omega arith) (omega arith), first, add-one)
 
-  pub marks_broken : 64 ≤ m → after_kind kind s end k ≡ newest.Broken
+  pub marks_broken : 64 ≤ m → after_kind kind s end k ≡ broken_record
   marks_broken h = by_marks ∙ ap (leaving (end - k - 1)) (marks_large kind m tail h)
 
   module _ (small : m < 64) where
     by_p : after_kind kind s end k ≡ leaving (end - k - 1) (and_then (read_below (2 ^ 20) tail) (from_p kind m))
     by_p = by_marks ∙ ap (leaving (end - k - 1)) (marks_first kind m tail small)
 
-    p_broken : read_below (2 ^ 20) tail ≡ broken → after_kind kind s end k ≡ newest.Broken
+    p_broken : read_below (2 ^ 20) tail ≡ broken → after_kind kind s end k ≡ broken_record
     p_broken e = by_p ∙ ap (λ (r : Read). leaving (end - k - 1) (and_then r (from_p kind m))) e
 
     p_is : (p : ℕ) (rest : List ℕ) → read_below (2 ^ 20) tail ≡ got p rest → after_kind kind s end k ≡ leaving (end - k - 1) (from_p kind m p rest)
     p_is p rest e = by_p ∙ ap (λ (r : Read). leaving (end - k - 1) (and_then r (from_p kind m))) e
 
-    kept : (p : ℕ) → m % 16 ≡ 0 → read_below (2 ^ 20) tail ≡ got p [] → Holds (after_kind kind s end k) (record { kind = kind; marks = m; p = p; a = 0; x = 0; y = 0; place = 0; value = 0 }) (end - k - 1) 0
+    kept : (p : ℕ) → m % 16 ≡ 0 → read_below (2 ^ 20) tail ≡ got p [] → Holds (after_kind kind s end k) (short_record mark_of.Nothing (unmarked kind m p) (end - k - 1))
     kept p z e = record { holds = p_is p [] e ∙ ap (leaving (end - k - 1)) (plain kind m p [] z); marks = z }
 
     -- Nothing is marked: P must take all bytes after the marks; r is what the code found for it.
     module _ {r : Number} (found : r ≡ number_of end (read_below (2 ^ 20) tail)) where
-      pub no_p : r ≡ Broken → after_kind kind s end k ≡ newest.Broken
+      pub no_p : r ≡ read_broken → after_kind kind s end k ≡ broken_record
       no_p e = p_broken (is_broken end (read_below (2 ^ 20) tail) (sym e ∙ found))
 
-      module _ {p next : ℕ} (e : r ≡ Got p next) (z : m % 16 ≡ 0) where
+      module _ {p next : ℕ} (e : r ≡ read_up_to p next) (z : m % 16 ≡ 0) where
         to : (read_below (2 ^ 20) tail ≡ got p (slice next end s)) × (next ≤ end)
         to = is_got true (2 ^ 20) s (end - k + 1) end p next (omega arith) (omega arith) (sym e ∙ found)
 
-        pub p_ends : next ≡ end → Holds (after_kind kind s end k) (record { kind = kind; marks = m; p = p; a = 0; x = 0; y = 0; place = 0; value = 0 }) (end - k - 1) 0
+        pub p_ends : next ≡ end → Holds (after_kind kind s end k) (short_record mark_of.Nothing (unmarked kind m p) (end - k - 1))
         p_ends h =
             let none : slice next end s ≡ [] = no_bytes (slice next end s) (length-slice next end s (omega arith) ∙ omega arith) in
             kept p z (to.0 ∙ ap (got p) none)
 
-        pub left_over : (next ≡ end → ⊥) → after_kind kind s end k ≡ newest.Broken
+        pub left_over : (next ≡ end → ⊥) → after_kind kind s end k ≡ broken_record
         left_over h =
             let rest : slice next end s ≡ get_or s next 0 ∷ slice (suc next) end s = slice-cons next end s 0 (omega (arith, to.1, h)) (omega arith) in
             let e : from_p kind m p (slice next end s) ≡ none = rw (plain kind m p (slice next end s) z, rest) in
@@ -202,22 +201,22 @@ module _ (kind : ℕ) (s : List ℕ) (end k m : ℕ) (some_bytes : 2 ≤ k) (ins
 
     -- One byte stands after the marks: P is that byte, and nothing is marked.
     module _ (b : ℕ) (one_byte : tail ≡ b ∷ []) where
-      pub p_kept : m % 16 ≡ 0 → b < 128 → Holds (after_kind kind s end k) (record { kind = kind; marks = m; p = b; a = 0; x = 0; y = 0; place = 0; value = 0 }) (end - k - 1) 0
+      pub p_kept : m % 16 ≡ 0 → b < 128 → Holds (after_kind kind s end k) (short_record mark_of.Nothing (unmarked kind m b) (end - k - 1))
       p_kept z l = kept b z (rw (one_byte, one (2 ^ 20) b [] l (omega arith)))
 
-      pub p_lacking : 128 ≤ b → after_kind kind s end k ≡ newest.Broken
+      pub p_lacking : 128 ≤ b → after_kind kind s end k ≡ broken_record
       p_lacking l = p_broken (rw (one_byte, lone (2 ^ 20) b l))
 
-      pub p_alone : (m % 16 ≡ 0 → ⊥) → after_kind kind s end k ≡ newest.Broken
+      pub p_alone : (m % 16 ≡ 0 → ⊥) → after_kind kind s end k ≡ broken_record
       p_alone z = go (ltb b 128) refl
         where
-          go : (t : Bool) → ltb b 128 ≡ t → after_kind kind s end k ≡ newest.Broken
+          go : (t : Bool) → ltb b 128 ≡ t → after_kind kind s end k ≡ broken_record
           go true e = p_is b [] (rw (one_byte, one (2 ^ 20) b [] (ltb-true b 128 e) (omega arith))) ∙ ap (leaving (end - k - 1)) (missing kind m b z)
           go false e = p_lacking (ltb-false b 128 e)
 
     -- Two bytes stand after the marks, and something is marked: P is the first, and the value the second.
     module _ (b c : ℕ) (two_bytes : tail ≡ b ∷ (c ∷ [])) where
-      pub p_takes_both : (m % 16 ≡ 0 → ⊥) → 128 ≤ b → after_kind kind s end k ≡ newest.Broken
+      pub p_takes_both : (m % 16 ≡ 0 → ⊥) → 128 ≤ b → after_kind kind s end k ≡ broken_record
       p_takes_both z l =
           let e : and_then (read_below (2 ^ 20) tail) (from_p kind m) ≡ none = rw two_bytes (both (2 ^ 20) b c l (from_p kind m) (λ p. missing kind m p z)) in
           by_p ∙ ap (leaving (end - k - 1)) e
@@ -226,51 +225,51 @@ module _ (kind : ℕ) (s : List ℕ) (end k m : ℕ) (some_bytes : 2 ≤ k) (ins
         p_first : after_kind kind s end k ≡ leaving (end - k - 1) (from_p kind m b (c ∷ []))
         p_first = p_is b (c ∷ []) (rw (two_bytes, one (2 ^ 20) b (c ∷ []) l (omega arith)))
 
-        pub value_lacking : (m % 16 ≡ 0 → ⊥) → 128 ≤ c → after_kind kind s end k ≡ newest.Broken
+        pub value_lacking : (m % 16 ≡ 0 → ⊥) → 128 ≤ c → after_kind kind s end k ≡ broken_record
         value_lacking z h = p_first ∙ ap (leaving (end - k - 1)) (lacking kind m b c h z)
 
         module _ (h : c < 128) where
-          pub a_marked : m % 16 ≡ 1 → Holds (after_kind kind s end k) (record { kind = kind; marks = m; p = b; a = c; x = 0; y = 0; place = 0; value = 0 }) (end - k - 1) 1
+          pub a_marked : m % 16 ≡ 1 → Holds (after_kind kind s end k) (short_record mark_of.A (registers kind m b c 0 0) (end - k - 1))
           a_marked z = record { holds = p_first ∙ ap (leaving (end - k - 1)) (a_left kind m b c h z); marks = z }
 
-          pub x_marked : m % 16 ≡ 2 → Holds (after_kind kind s end k) (record { kind = kind; marks = m; p = b; a = 0; x = c; y = 0; place = 0; value = 0 }) (end - k - 1) 2
+          pub x_marked : m % 16 ≡ 2 → Holds (after_kind kind s end k) (short_record mark_of.X (registers kind m b 0 c 0) (end - k - 1))
           x_marked z = record { holds = p_first ∙ ap (leaving (end - k - 1)) (x_left kind m b c h z); marks = z }
 
-          pub y_marked : m % 16 ≡ 4 → Holds (after_kind kind s end k) (record { kind = kind; marks = m; p = b; a = 0; x = 0; y = c; place = 0; value = 0 }) (end - k - 1) 4
+          pub y_marked : m % 16 ≡ 4 → Holds (after_kind kind s end k) (short_record mark_of.Y (registers kind m b 0 0 c) (end - k - 1))
           y_marked z = record { holds = p_first ∙ ap (leaving (end - k - 1)) (y_left kind m b c h z); marks = z }
 
-          pub more_marked : (m % 16 ≡ 0 → ⊥) → (m % 16 ≡ 1 → ⊥) → (m % 16 ≡ 2 → ⊥) → (m % 16 ≡ 4 → ⊥) → after_kind kind s end k ≡ newest.Broken
+          pub more_marked : (m % 16 ≡ 0 → ⊥) → (m % 16 ≡ 1 → ⊥) → (m % 16 ≡ 2 → ⊥) → (m % 16 ≡ 4 → ⊥) → after_kind kind s end k ≡ broken_record
           more_marked z za zx zy = p_first ∙ ap (leaving (end - k - 1)) (more_left kind m b c h z za zx zy)
 
-pub pair_is : (s : List ℕ) (end : ℕ) {r t : Pair} → r ≡ t → TwoBytes s end r → TwoBytes s end t
+pub pair_is : (s : List ℕ) (end : ℕ) {r t : Number} → r ≡ t → TwoBytes s end r → TwoBytes s end t
 pair_is s end e h = subst (TwoBytes s end) e h
 
 -- Four bytes stand before L, and something is marked: the kind, the marks, and two bytes.
-module _ (kind : ℕ) (s : List ℕ) (end m : ℕ) (four : 4 ≤ end) (fits : end < length s) (mark : Marked s (end - 3) m) (some : m % 16 ≡ 0 → ⊥) where
+module _ (kind : Kind) (s : List ℕ) (end m : ℕ) (four : 4 ≤ end) (fits : end < length s) (mark : MarksAt s (end - 3) m) (some : m % 16 ≡ 0 → ⊥) where
   after_marks : end - 3 + 1 ≡ end - 2
   after_marks = omega arith
 
   at_p : (b c : ℕ) → slice (end - 2) end s ≡ b ∷ (c ∷ []) → slice (end - 3 + 1) end s ≡ b ∷ (c ∷ [])
   at_p b c e = rw after_marks e
 
-  pub pair_broken : TwoBytes s end pair.Broken → after_kind kind s end 3 ≡ newest.Broken
+  pub pair_broken : TwoBytes s end read_broken → after_kind kind s end 3 ≡ broken_record
   pair_broken t = go (ltb (get_or s (end - 2) 0) 128) refl
     where
-      go : (x : Bool) → ltb (get_or s (end - 2) 0) 128 ≡ x → after_kind kind s end 3 ≡ newest.Broken
+      go : (x : Bool) → ltb (get_or s (end - 2) 0) 128 ≡ x → after_kind kind s end 3 ≡ broken_record
       go true e =
           let l = ltb-true (get_or s (end - 2) 0) 128 e in
           value_lacking kind s end 3 m (omega arith) (omega arith) fits mark.byte mark.small (get_or s (end - 2) 0) (get_or s (end - 1) 0) (at_p _ _ t.0) l some (t.1 l)
       go false e =
           p_takes_both kind s end 3 m (omega arith) (omega arith) fits mark.byte mark.small (get_or s (end - 2) 0) (get_or s (end - 1) 0) (at_p _ _ t.0) some (ltb-false (get_or s (end - 2) 0) 128 e)
 
-  pub pair_says : (p v : ℕ) → TwoBytes s end (pair.Got p v) → Says 4 (with_value kind m p v (end - 4)) (after_kind kind s end 3)
+  pub pair_says : (p v : ℕ) → TwoBytes s end (read_up_to p v) → Tells (with_value kind m p v (end - 4)) (after_kind kind s end 3)
   unfolding with_value
   pair_says p v t = go (eqb (m % 16) 1) (eqb (m % 16) 2) (eqb (m % 16) 4) refl refl refl
     where
       left : end - 4 ≡ end - 3 - 1
       left = omega arith
 
-      go : (x y z : Bool) → eqb (m % 16) 1 ≡ x → eqb (m % 16) 2 ≡ y → eqb (m % 16) 4 ≡ z → Says 4 (with_value kind m p v (end - 4)) (after_kind kind s end 3)
+      go : (x y z : Bool) → eqb (m % 16) 1 ≡ x → eqb (m % 16) 2 ≡ y → eqb (m % 16) 4 ≡ z → Tells (with_value kind m p v (end - 4)) (after_kind kind s end 3)
       go true y z e f g = rw (e, left) (a_marked kind s end 3 m (omega arith) (omega arith) fits mark.byte mark.small p v (at_p p v t.0) t.1 t.2 (eqb-true (m % 16) 1 e))
       go false true z e f g = rw (e, f, left) (x_marked kind s end 3 m (omega arith) (omega arith) fits mark.byte mark.small p v (at_p p v t.0) t.1 t.2 (eqb-true (m % 16) 2 f))
       go false false true e f g = rw (e, f, g, left) (y_marked kind s end 3 m (omega arith) (omega arith) fits mark.byte mark.small p v (at_p p v t.0) t.1 t.2 (eqb-true (m % 16) 4 g))
@@ -284,54 +283,52 @@ module _ (s : List ℕ) (end k : ℕ) (low : 3 ≤ k) (high : k ≤ 28) (inside 
   by_kind : before_L (2 ^ 21) s end k ≡ leaving (end - k) (read_in_form true (2 ^ 21) (get_or s (end - k) 0 ∷ slice (suc (end - k)) end s))
   by_kind = rw (le-ltb k 3 low, le-ltb 28 k high, le-ltb end k inside, slice-cons (end - k) end s 0 (omega arith) (omega arith))
 
-  pub kind_large : 5 ≤ get_or s (end - k) 0 → before_L (2 ^ 21) s end k ≡ newest.Broken
+  pub kind_large : 5 ≤ get_or s (end - k) 0 → before_L (2 ^ 21) s end k ≡ broken_record
   unfolding read_in_form
   kind_large h = by_kind ∙ rw (first_byte 5 (get_or s (end - k) 0) (slice (suc (end - k)) end s) (omega arith), le-ltb (get_or s (end - k) 0) 5 h)
 
-  pub kind_first : (kind : ℕ) → get_or s (end - k) 0 ≡ kind → kind < 5 → (j : ℕ) → k ≡ suc j → before_L (2 ^ 21) s end k ≡ after_kind kind s end j
+  pub kind_first : (kind : Kind) → Ok kind ≡ kind_read (get_or s (end - k) 0) → (j : ℕ) → k ≡ suc j → before_L (2 ^ 21) s end k ≡ after_kind kind s end j
   unfolding read_in_form
-  kind_first kind e h j u =
+  kind_first kind e j u =
+      let b = get_or s (end - k) 0 in
       let left : end - k ≡ end - j - 1 = omega arith in
       let next : suc (end - k) ≡ end - j = omega arith in
-      by_kind ∙ rw (e, first_byte 5 kind (slice (suc (end - k)) end s) (omega arith), lt-ltb kind 5 h, next, left)
+      by_kind ∙ rw (first_byte 5 b (slice (suc (end - k)) end s) (omega arith), lt-ltb b 5 (kind_small b kind e), kind_known b kind e, next, left)
 
 -- ---- the newest record, where L is known
 
 -- No word is marked, so whether it is fitted does not matter.
-module _ (main ports : ℕ) where
-  holds_fitted : {n : Newest} {o : OldValues} {left weights : ℕ} → weights < 8 → Holds n o left weights → Holds (only_fitted main ports n) o left weights
-  holds_fitted {n} {o} {left} {weights} l h =
-      let no_word : (o.marks / 8 % 2 ≡ 1 → ⊥) = λ e. omega (arith, e, sixteen o.marks, h.marks) in
-      record { holds = rw (h.holds, ne_eqb (o.marks / 8 % 2) 1 no_word); marks = h.marks }
+no_word : (k : Marked) (m : ℕ) → MarksAlone k m → m / 8 % 2 ≡ 1 → ⊥
+no_word mark_of.Nothing m h e = omega (arith, e, sixteen m, h)
+no_word mark_of.A m h e = omega (arith, e, sixteen m, h)
+no_word mark_of.X m h e = omega (arith, e, sixteen m, h)
+no_word mark_of.Y m h e = omega (arith, e, sixteen m, h)
+no_word mark_of.Any m h e = h
 
-  says_fitted : (l : ℕ) (r : ShortRecord) (n : Newest) → Says l r n → Says l r (only_fitted main ports n)
-  says_fitted l (short.Kept o left) n h = holds_fitted (omega arith) h
-  says_fitted l (short.A o left) n h = holds_fitted (omega arith) h
-  says_fitted l (short.X o left) n h = holds_fitted (omega arith) h
-  says_fitted l (short.Y o left) n h = holds_fitted (omega arith) h
-  says_fitted l short.Broken n h = rw h
-  says_fitted l short.Longer n h = h
+module _ (main ports : ℕ) where
+  tells_fitted : (r : Result ShortRecord BrokenType) (n : Result Newest BrokenType) → Tells r n → Tells r (only_fitted main ports n)
+  tells_fitted (Ok r) n h =
+      record { holds = rw (h.holds, ne_eqb (r.values.marks / 8 % 2) 1 (no_word r.marked r.values.marks h.marks)); marks = h.marks }
+  tells_fitted (Err e) n h = rw h
 
 by_L : (s : List ℕ) (used k : ℕ) → get_or s (used - 1) 0 ≡ k → newest_of (2 ^ 21) s used ≡ before_L (2 ^ 21) s (used - 1) k
 unfolding newest_in
 by_L s used k e = rw e
 
-pub says_newest : (s : List ℕ) (used k : ℕ) (r : ShortRecord) → get_or s (used - 1) 0 ≡ k → Says k r (before_L (2 ^ 21) s (used - 1) k) → (main ports : ℕ) → Says (get_or s (used - 1) 0) r (newest_fitted main ports s used)
+pub tells_newest : (s : List ℕ) (used k : ℕ) (r : Result ShortRecord BrokenType) → get_or s (used - 1) 0 ≡ k → Tells r (before_L (2 ^ 21) s (used - 1) k) → (main ports : ℕ) → Tells r (newest_fitted main ports s used)
 unfolding newest_fitted
-says_newest s used k r e h main ports = rw (by_L s used k e, e) (says_fitted main ports k r (before_L (2 ^ 21) s (used - 1) k) h)
+tells_newest s used k r e h main ports = rw (by_L s used k e) (tells_fitted main ports r (before_L (2 ^ 21) s (used - 1) k) h)
 
-pub too_few : (s : List ℕ) (used : ℕ) → get_or s (used - 1) 0 < 3 → (main ports : ℕ) → newest_fitted main ports s used ≡ newest.Broken
+pub too_few : (s : List ℕ) (used : ℕ) → get_or s (used - 1) 0 < 3 → (main ports : ℕ) → newest_fitted main ports s used ≡ broken_record
 unfolding newest_fitted
 too_few s used h main ports = rw (too_short true (2 ^ 21) s used h)
 
 -- L says more bytes than there are; and the kind is known.
-pub past : (s : List ℕ) (end k : ℕ) → 3 ≤ k → k ≤ 28 → end < k → before_L (2 ^ 21) s end k ≡ newest.Broken
+pub past : (s : List ℕ) (end k : ℕ) → 3 ≤ k → k ≤ 28 → end < k → before_L (2 ^ 21) s end k ≡ broken_record
 past s end k low high h = rw (le-ltb k 3 low, le-ltb 28 k high, lt-ltb end k h)
 
-pub says_kind : (s : List ℕ) (used k : ℕ) → get_or s (used - 1) 0 ≡ k → 3 ≤ k → k ≤ 28 → k ≤ used - 1 → used - 1 < length s → (kind : ℕ) → get_or s (used - 1 - k) 0 ≡ kind → kind < 5 → (j : ℕ) → k ≡ suc j
-    → (r : ShortRecord) → Says (suc j) r (after_kind kind s (used - 1) j)
-    → (main ports : ℕ) → Says (get_or s (used - 1) 0) r (newest_fitted main ports s used)
-says_kind s used k e low high inside fits kind f small j u r h =
-    says_newest s used k r e
-    (rw (kind_first s (used - 1) k low high inside fits kind f small j u)
-    (subst (λ (n : ℕ). Says n r (after_kind kind s (used - 1) j)) (sym u) h))
+pub tells_kind : (s : List ℕ) (used k : ℕ) → get_or s (used - 1) 0 ≡ k → 3 ≤ k → k ≤ 28 → k ≤ used - 1 → used - 1 < length s → (kind : Kind) → Ok kind ≡ kind_read (get_or s (used - 1 - k) 0) → (j : ℕ) → k ≡ suc j
+    → (r : Result ShortRecord BrokenType) → Tells r (after_kind kind s (used - 1) j)
+    → (main ports : ℕ) → Tells r (newest_fitted main ports s used)
+tells_kind s used k e low high inside fits kind f j u r h =
+    tells_newest s used k r e (rw (kind_first s (used - 1) k low high inside fits kind f j u) h)

@@ -7,6 +7,5 @@ mod reader;
 mod short;
 
 pub use from_end::{newest, read_record};
-pub use numbers::Number;
-pub use reader::read_number;
-pub use short::{ShortRecord, read_short};
+pub use numbers::read_number;
+pub use short::{Marked, ShortRecord, read_short};

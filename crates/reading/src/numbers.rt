@@ -4,31 +4,26 @@ ghost use Rattle.std.proofs.Math.Seq.{slice};
 ghost use Rattle.trail.specs.Numbers.{over, below, read_below, read_in};
 ghost use Rattle.reading.specs.Finding.{number_of};
 
-// What reading a number finds: its value and the place after it, or that it is broken.
-#[derive(Clone, Copy)]
-pub enum Number {
-    Got(u32, usize),
-    Broken,
-}
+use trail::Broken;
 
-// The number below `bound` that stands at `at` and ends before `end`.
-pub(crate) fn number_at(bytes: &[u8], at: usize, end: usize, bound: u64) -> Number
+// The number below `bound` that stands at `at` and ends before `end`, with the place after it.
+pub fn read_number(bytes: &[u8], at: usize, end: usize, bound: u64) -> Result<(u32, usize), Broken>
     requires { (end ≤ length bytes.now) × (bound ≤ 2 ^ 32) }
     ensures { result ≡ number_of end (read_below bound (slice at end bytes.now)) }
 {
     if end <= at {
-        return Number::Broken;
+        return Err(Broken);
     }
     let b = bytes[at] as u64;
     if b < 128 {
         if b < bound {
-            return Number::Got(b as u32, at + 1);
+            return Ok((b as u32, at + 1));
         }
-        return Number::Broken;
+        return Err(Broken);
     }
     if bound <= 128 {
         // Two groups or more come to 128 or more.
-        return Number::Broken;
+        return Err(Broken);
     }
     if at + 1 < end {
         // Two groups or three, the most common numbers after one: no loop.
@@ -36,16 +31,16 @@ pub(crate) fn number_at(bytes: &[u8], at: usize, end: usize, bound: u64) -> Numb
         if c < 128 {
             let n = b % 128 + 128 * c;
             if (0 < c) & (n < bound) {
-                return Number::Got(n as u32, at + 2);
+                return Ok((n as u32, at + 2));
             }
             // A group too many, or too large.
-            return Number::Broken;
+            return Err(Broken);
         }
         if at + 2 < end {
             let d = bytes[at + 2] as u64;
             let n = b % 128 + 128 * (c % 128) + 16_384 * d;
             if (0 < d) & (d < 128) & (n < bound) {
-                return Number::Got(n as u32, at + 3);
+                return Ok((n as u32, at + 3));
             }
         }
     }
@@ -53,33 +48,37 @@ pub(crate) fn number_at(bytes: &[u8], at: usize, end: usize, bound: u64) -> Numb
 }
 
 // The same, from its second group on; the first gave `first`.
-fn read_more(bytes: &[u8], at: usize, end: usize, first: u64, bound: u64) -> Number
+fn read_more(
+    bytes: &[u8],
+    at: usize,
+    end: usize,
+    first: u64,
+    bound: u64,
+) -> Result<(u32, usize), Broken>
     requires { (end ≤ length bytes.now) × (first < 128) × (bound ≤ 2 ^ 32) }
     ensures { result ≡ number_of end (below bound (over first (read_in 3 (slice at end bytes.now)))) }
 {
-    let mut next = at;
     let mut low = first;
     let mut scale: u64 = 128;
-    while next < end {
+    for next in at..end {
         let b = bytes[next] as u64;
         if b < 128 {
             if b == 0 {
                 // A group too many.
-                return Number::Broken;
+                return Err(Broken);
             }
             let n = low + scale * b;
             if n < bound {
-                return Number::Got(n as u32, next + 1);
+                return Ok((n as u32, next + 1));
             }
-            return Number::Broken;
+            return Err(Broken);
         }
         if scale >= bound {
             // One group more makes it too large.
-            return Number::Broken;
+            return Err(Broken);
         }
         low = low + scale * (b - 128);
         scale = scale * 128;
-        next += 1;
     }
-    Number::Broken
+    Err(Broken)
 }

@@ -1,48 +1,71 @@
-// The trail reader: the lent bytes and a place in them (document 01, "A form for each place").
-// The functions over a reader are few and thin: the work is `number_at`'s. What is read answers with the place after it, and `moved` hands the reader
-// back at that place.
-ghost use Rattle.std.specs.Prelude.{◌≡◌, ◌^◌, ◌≤◌, length};
+// The trail reader: the lent bytes, a place in them, and the end of what is to be read (document 01, "A form for each place").
+// It is thin: the work is `read_number`'s.
+ghost use Rattle.std.specs.Prelude.{◌≡◌, ◌^◌, ◌≤◌, [], length, eqb};
+ghost use Rattle.std.specs.Result.{OnErr};
 ghost use Rattle.std.proofs.Math.Seq.{slice};
-ghost use Rattle.trail.specs.Numbers.{read_below};
-ghost use Rattle.reading.specs.Finding.{number_of};
+ghost use Rattle.trail.specs.Numbers.{read_below, read_if};
+ghost use Rattle.reading.specs.Finding.{read_of};
 
-use crate::numbers::{Number, number_at};
+use crate::numbers::read_number;
+use std::marker::Model;
+use trail::Broken;
 
 #[derive(Drop)]
-pub struct TrailReader<'a> {
-    pub bytes: &'a [u8],
-    pub place: usize,
+pub(crate) struct TrailReader<'a> {
+    bytes: &'a [u8],
+    place: usize,
+    end: usize,
 }
 
-// A reader at the end of what is to be read: of the bytes in use, or of those before L.
-pub(crate) fn at_end<'a>(bytes: &'a [u8], end: usize) -> TrailReader<'a>
-    ensures { (result.bytes ≡ bytes.entry) × (result.place ≡ end) }
-{
-    TrailReader { bytes, place: end }
+// A contract sees the bytes that are still to be read.
+impl<'a> Model for TrailReader<'a> {
+    ghost use Rattle.std.specs.Prelude.{ℕ, ◌≤◌, List, length};
+    ghost use Rattle.std.proofs.Math.Seq.{slice};
+
+    ghost Value = { List ℕ };
+
+    ghost view = { λ r. slice r.place r.end r.bytes.now };
+
+    ghost invariant = { λ r. (r.place ≤ r.end) × (r.end ≤ length r.bytes.now) };
 }
 
-// The same reader at another place.
-pub(crate) fn moved<'a>(r: TrailReader<'a>, place: usize) -> TrailReader<'a>
-    ensures { (result.bytes ≡ r.entry.bytes) × (result.place ≡ place) }
-{
-    TrailReader {
-        bytes: r.bytes,
-        place,
+impl<'a> TrailReader<'a> {
+    // A reader of the bytes from `place` to `end`.
+    pub(crate) fn new(bytes: &'a [u8], place: usize, end: usize) -> TrailReader<'a>
+        requires { (place ≤ end) × (end ≤ length bytes.now) }
+        ensures { result ≡ slice place end bytes.now }
+    {
+        TrailReader { bytes, place, end }
     }
-}
 
-// The number below `bound` that stands at the reader's place and ends before `end`.
-pub(crate) fn next_number<'a>(r: TrailReader<'a>, end: usize, bound: u64) -> Number
-    requires { (end ≤ length r.bytes.now) × (bound ≤ 2 ^ 32) }
-    ensures { result ≡ number_of end (read_below bound (slice r.entry.place end r.entry.bytes.now)) }
-{
-    number_at(r.bytes, r.place, end, bound)
-}
+    // The number below `bound` that stands next. The reader then stands after it, or where it stood if the number is broken.
+    pub(crate) fn next_number(&mut self, bound: u64) -> Result<u32, Broken>
+        requires { bound ≤ 2 ^ 32 }
+        ensures reads { read_below bound self.old ≡ read_of result self.new }
+        ensures stays { OnErr result (self.new ≡ self.old) }
+    {
+        let (n, next) = read_number(self.bytes, self.place, self.end, bound)?;
+        self.place = next;
+        Ok(n)
+    }
 
-// The same with plain parameters: whatever take back reads of a trail, L too, it reads by this.
-pub fn read_number(bytes: &[u8], place: usize, end: usize, bound: u64) -> Number
-    requires { (end ≤ length bytes.now) × (bound ≤ 2 ^ 32) }
-    ensures { result ≡ number_of end (read_below bound (slice place end bytes.now)) }
-{
-    next_number(moved(at_end(bytes, end), place), end, bound)
+    // The same, if it is marked; else 0, and no byte is read.
+    pub(crate) fn next_if(&mut self, marked: bool, bound: u64) -> Result<u32, Broken>
+        requires { bound ≤ 2 ^ 32 }
+        ensures reads { read_if marked bound self.old ≡ read_of result self.new }
+        ensures stays { OnErr result (self.new ≡ self.old) }
+    {
+        if marked {
+            self.next_number(bound)
+        } else {
+            Ok(0)
+        }
+    }
+
+    // Whether no byte is left.
+    pub(crate) fn is_at_end(&self) -> bool
+        ensures { result ≡ eqb (length self.now) 0 }
+    {
+        self.place == self.end
+    }
 }

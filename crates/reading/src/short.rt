@@ -2,46 +2,50 @@
 // one after another, and taking it back is quick. No trail byte is written here.
 ghost use Rattle.std.specs.Prelude.{◌≡◌, ℕ, ◌-◌, ◌%◌, ◌<◌, ◌≤◌, length, get_or};
 ghost use Rattle.trail.specs.Newest.{newest_fitted};
-ghost use Rattle.reading.specs.Finding.{Says, Marked, TwoBytes, with_value, after_kind};
+ghost use Rattle.trail.specs.Records.{kind_read};
+ghost use Rattle.reading.specs.Finding.{Says, Tells, MarksAt, TwoBytes, unmarked, with_value, after_kind};
 
 use crate::from_end::{ADDRESSES, KINDS, MARKS, SHORTEST};
-use crate::numbers::Number;
-use crate::reader::read_number;
-use trail::OldValues;
+use crate::numbers::read_number;
+use trail::{Broken, Kind, OldValues};
 
 // The bounds of an L so small, and of a number of one group.
 const SHORT: u64 = 5;
 
 const GROUP: u64 = 128;
 
-// What a record so short marks beside the flags: nothing, A, X or Y; its old values, and the count of bytes in use once it is gone.
-// Or it is broken, or it is not so short.
-#[derive(Clone, Copy)]
-pub enum ShortRecord {
-    Kept(OldValues, usize),
-    A(OldValues, usize),
-    X(OldValues, usize),
-    Y(OldValues, usize),
-    Broken,
-    Longer,
+// What a record marks beside the flags: nothing, A, X or Y alone, or any of A, X, Y and the word.
+#[derive(Clone, Copy, Debug, PartialEq, Eq)]
+pub enum Marked {
+    Nothing,
+    A,
+    X,
+    Y,
+    Any,
 }
 
-// After the kind, marks and P, each one byte: nothing is marked.
-fn two_bytes(kind: u32, trail: &[u8], end: usize) -> ShortRecord
-    requires { (3 ≤ end) × (end < length trail.now) }
-    ensures { Says 3 result (after_kind kind trail.now end 2) }
+// A record so short: what it marks, which is nothing or one register alone; its old values, and the count of bytes in use once it is gone.
+#[derive(Clone, Copy, Debug, PartialEq, Eq)]
+pub struct ShortRecord {
+    pub marked: Marked,
+    pub values: OldValues,
+    pub left: usize,
+}
+
+// The kind whose number is the byte at a place.
+fn kind_at(trail: &[u8], at: usize) -> Result<Kind, Broken>
+    requires { at < length trail.now }
+    ensures { result ≡ kind_read (get_or trail.now at 0) }
 {
-    let start = end - 2;
-    let Number::Got(marks, _) = read_number(trail, start, start + 1, MARKS) else {
-        return ShortRecord::Broken;
-    };
-    if marks % 16 != 0 {
-        return ShortRecord::Broken;
-    }
-    let Number::Got(p, _) = read_number(trail, start + 1, end, GROUP) else {
-        return ShortRecord::Broken;
-    };
-    let o = OldValues {
+    let (n, _) = read_number(trail, at, at + 1, KINDS)?;
+    Kind::try_from(n)
+}
+
+// The old values of a record that marks nothing.
+fn unmarked(kind: Kind, marks: u32, p: u32) -> OldValues
+    ensures { result ≡ unmarked kind marks p }
+{
+    OldValues {
         kind,
         marks,
         p,
@@ -50,134 +54,111 @@ fn two_bytes(kind: u32, trail: &[u8], end: usize) -> ShortRecord
         y: 0,
         place: 0,
         value: 0,
-    };
-    ShortRecord::Kept(o, start - 1)
+    }
+}
+
+// After the kind, marks and P, each one byte: nothing is marked.
+fn two_bytes(kind: Kind, trail: &[u8], end: usize) -> Result<ShortRecord, Broken>
+    requires { (3 ≤ end) × (end < length trail.now) }
+    ensures { Tells result (after_kind kind trail.now end 2) }
+{
+    let start = end - 2;
+    let (marks, _) = read_number(trail, start, start + 1, MARKS)?;
+    if marks % 16 != 0 {
+        return Err(Broken);
+    }
+    let (p, _) = read_number(trail, start + 1, end, GROUP)?;
+    Ok(ShortRecord {
+        marked: Marked::Nothing,
+        values: unmarked(kind, marks, p),
+        left: start - 1,
+    })
 }
 
 // After the kind and marks that mark nothing, P in two bytes.
-fn wide_p(kind: u32, marks: u32, trail: &[u8], end: usize) -> ShortRecord
-    requires { (4 ≤ end) × (end < length trail.now) × Marked trail.now (end - 3) marks × (marks % 16 ≡ 0) }
-    ensures { Says 4 result (after_kind kind trail.now end 3) }
+fn wide_p(kind: Kind, marks: u32, trail: &[u8], end: usize) -> Result<ShortRecord, Broken>
+    requires { (4 ≤ end) × (end < length trail.now) × MarksAt trail.now (end - 3) marks × (marks % 16 ≡ 0) }
+    ensures { Tells result (after_kind kind trail.now end 3) }
 {
     let start = end - 3;
-    let Number::Got(p, next) = read_number(trail, start + 1, end, ADDRESSES) else {
-        return ShortRecord::Broken;
-    };
+    let (p, next) = read_number(trail, start + 1, end, ADDRESSES)?;
     if next == end {
-        let o = OldValues {
-            kind,
-            marks,
-            p,
-            a: 0,
-            x: 0,
-            y: 0,
-            place: 0,
-            value: 0,
-        };
-        return ShortRecord::Kept(o, start - 1);
+        return Ok(ShortRecord {
+            marked: Marked::Nothing,
+            values: unmarked(kind, marks, p),
+            left: start - 1,
+        });
     }
-    ShortRecord::Broken
-}
-
-// Two numbers of one byte each, or one of them is broken.
-#[derive(Clone, Copy)]
-enum Pair {
-    Got(u32, u32),
-    Broken,
+    Err(Broken)
 }
 
 // The two bytes before L, each a number.
-fn two_numbers(trail: &[u8], end: usize) -> Pair
+fn two_numbers(trail: &[u8], end: usize) -> Result<(u32, u32), Broken>
     requires { (2 ≤ end) × (end < length trail.now) }
     ensures { TwoBytes trail.now end result }
 {
-    let Number::Got(p, _) = read_number(trail, end - 2, end - 1, GROUP) else {
-        return Pair::Broken;
-    };
-    let Number::Got(value, _) = read_number(trail, end - 1, end, GROUP) else {
-        return Pair::Broken;
-    };
-    Pair::Got(p, value)
+    let (p, _) = read_number(trail, end - 2, end - 1, GROUP)?;
+    let (value, _) = read_number(trail, end - 1, end, GROUP)?;
+    Ok((p, value))
 }
 
 // A record with the only value that these marks mark. A word or two registers do not go into one byte.
-fn with_value(kind: u32, marks: u32, p: u32, value: u32, left: usize) -> ShortRecord
+#[tactic(auto, unfolding(crate::specs::Finding::with_value))]
+fn with_value(
+    kind: Kind,
+    marks: u32,
+    p: u32,
+    value: u32,
+    left: usize,
+) -> Result<ShortRecord, Broken>
     ensures { result ≡ with_value kind marks p value left }
 {
-    let changed = marks % 16;
-    if changed == 1 {
-        let o = OldValues {
-            kind,
-            marks,
-            p,
-            a: value,
-            x: 0,
-            y: 0,
-            place: 0,
-            value: 0,
-        };
-        return ShortRecord::A(o, left);
+    let base = unmarked(kind, marks, p);
+    match marks % 16 {
+        1 => Ok(ShortRecord {
+            marked: Marked::A,
+            values: OldValues { a: value, ..base },
+            left,
+        }),
+        2 => Ok(ShortRecord {
+            marked: Marked::X,
+            values: OldValues { x: value, ..base },
+            left,
+        }),
+        4 => Ok(ShortRecord {
+            marked: Marked::Y,
+            values: OldValues { y: value, ..base },
+            left,
+        }),
+        _ => Err(Broken),
     }
-    if changed == 2 {
-        let o = OldValues {
-            kind,
-            marks,
-            p,
-            a: 0,
-            x: value,
-            y: 0,
-            place: 0,
-            value: 0,
-        };
-        return ShortRecord::X(o, left);
-    }
-    if changed == 4 {
-        let o = OldValues {
-            kind,
-            marks,
-            p,
-            a: 0,
-            x: 0,
-            y: value,
-            place: 0,
-            value: 0,
-        };
-        return ShortRecord::Y(o, left);
-    }
-    ShortRecord::Broken
 }
 
-// The newest record of a trail of which `used` bytes are in use, if it is so short. It marks no word, so the stores do not matter.
-pub fn read_short(trail: &[u8], used: usize) -> ShortRecord
+// The newest record of a trail of which `used` bytes are in use, if it is so short; none, if it is longer. It marks no word, so the stores do not matter.
+pub fn read_short(trail: &[u8], used: usize) -> Result<Option<ShortRecord>, Broken>
     requires { (0 < used) × (used ≤ length trail.now) }
     ensures { (main ports : ℕ) → Says (get_or trail.now (used - 1) 0) result (newest_fitted main ports trail.now used) }
 {
     let end = used - 1;
-    let Number::Got(n, _) = read_number(trail, end, used, SHORT) else {
-        return ShortRecord::Longer;
+    let Ok((n, _)) = read_number(trail, end, used, SHORT) else {
+        return Ok(None);
     };
     let l = n as usize;
     if l < SHORTEST {
-        return ShortRecord::Broken;
+        return Err(Broken);
     }
     if end < l {
-        return ShortRecord::Broken;
+        return Err(Broken);
     }
-    let Number::Got(kind, _) = read_number(trail, end - l, end - l + 1, KINDS) else {
-        return ShortRecord::Broken;
-    };
+    let kind = kind_at(trail, end - l)?;
     if l == SHORTEST {
-        return two_bytes(kind, trail, end);
+        return Ok(Some(two_bytes(kind, trail, end)?));
     }
-    let Number::Got(marks, _) = read_number(trail, end - 3, end - 3 + 1, MARKS) else {
-        return ShortRecord::Broken;
-    };
+    let (marks, _) = read_number(trail, end - 3, end - 3 + 1, MARKS)?;
     if marks % 16 == 0 {
-        return wide_p(kind, marks, trail, end);
+        return Ok(Some(wide_p(kind, marks, trail, end)?));
     }
     // Something is marked: P and the only value have one byte each.
-    let Pair::Got(p, value) = two_numbers(trail, end) else {
-        return ShortRecord::Broken;
-    };
-    with_value(kind, marks, p, value, end - 4)
+    let (p, value) = two_numbers(trail, end)?;
+    Ok(Some(with_value(kind, marks, p, value, end - 4)?))
 }

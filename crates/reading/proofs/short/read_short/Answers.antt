@@ -1,43 +1,46 @@
 -- `read_short` meets its contract: L below 5, the kind, and then two bytes or three, of which the first is the marks.
 -- Assumes nothing.
-use Prim.Native.Nat.{ℕ, suc, ◌+◌, ◌-◌, ◌<◌, ◌≤◌}
-use mathlib.Core.Path.{◌≡◌, refl, sym, subst}
+use Prim.Native.Nat.{ℕ, suc, ◌+◌, ◌-◌, ◌%◌, ◌<◌, ◌≤◌}
+use mathlib.Core.Path.{◌≡◌, refl}
 use mathlib.Core.List.{List}
 use native.Mathlib.Omega.{arith}
 use lib.ListN.{length, get_or}
 use lib.Seq.{slice}
+use Rattle.std.specs.Prelude.{Result, Ok, Err}
+use Rattle.trail.specs.declared.Broken.{Broken}
+use Rattle.trail.specs.declared.Kind.{Kind}
+use Rattle.trail.specs.Records.{kind_read}
 use Rattle.trail.specs.Newest.{newest_fitted}
 use Rattle.trail.specs.Numbers.{read_below}
-use Rattle.reading.specs.Finding.{Marked, Says, after_kind, number_of}
-use Rattle.reading.specs.declared.numbers.Number.{Number}
-use Rattle.reading.specs.declared.numbers.Number.TheVariants as number
+use Rattle.reading.specs.Finding.{Number, MarksAt, Tells, TwoBytes, after_kind, number_of, read_up_to, with_value}
 use Rattle.reading.specs.declared.short.ShortRecord.{ShortRecord}
-use Rattle.reading.specs.declared.short.ShortRecord.TheVariants as short
-use Rattle.reading.proofs.ReadingNumbers.{is_byte, no_byte}
-use Rattle.reading.proofs.ShortRecords.{says_newest, too_few, past, marks_broken, pair_is, pair_broken, pair_says, kind_large, says_kind}
+use Rattle.reading.proofs.ReadingNumbers.{kind_unread, is_byte, no_byte, the_error}
+use Rattle.reading.proofs.ShortRecords.{tells_newest, too_few, past, marks_broken, pair_broken, pair_says, kind_large, tells_kind}
 use Rattle.reading.proofs.short.read_short.Goals as goal
 
+-- A record that is broken.
+abbrev bad : Result ShortRecord Broken
+bad = Err (record {})
+
 -- The last byte in use is read as L, below 5; `next` is the place after it.
-module _ (s : List ℕ) (used : ℕ) (known : (0 < used) × (used ≤ length s)) {r : Number} {l next : ℕ} (read : r ≡ number_of used (read_below 5 (slice (used - 1) used s))) (is : r ≡ number.Got l next) where
+module _ (s : List ℕ) (used : ℕ) (known : (0 < used) × (used ≤ length s)) {r : Number} {l next : ℕ} (read : r ≡ number_of used (read_below 5 (slice (used - 1) used s))) (is : r ≡ read_up_to l next) where
   L : (get_or s (used - 1) 0 ≡ l) × (l < 5)
   L = is_byte s (used - 1) used 5 (omega arith) (omega arith) (omega arith) read is
 
-  -- The first byte that L counts is read as the kind: what is said of the j bytes after it is said of the newest record.
-  kind_read : 3 ≤ l → l ≤ used - 1 → {r₂ : Number} {kind next₂ : ℕ} → r₂ ≡ number_of (used - 1 - l + 1) (read_below 5 (slice (used - 1 - l) (used - 1 - l + 1) s)) → r₂ ≡ number.Got kind next₂
-      → (j : ℕ) → l ≡ suc j → (found : ShortRecord) → Says (suc j) found (after_kind kind s (used - 1) j)
-      → (main ports : ℕ) → Says (get_or s (used - 1) 0) found (newest_fitted main ports s used)
-  kind_read low inside {r₂} {kind} read₂ is₂ =
-      let k = is_byte s (used - 1 - l) (used - 1 - l + 1) 5 refl (omega arith) (omega arith) read₂ is₂ in
-      says_kind s used l L.0 low (omega (arith, L)) inside (omega arith) kind k.0 k.1
+  -- The first byte that L counts is read as the kind: what is told of the j bytes after it is told of the newest record.
+  kind_read_at : 3 ≤ l → l ≤ used - 1 → {kind : Kind} → Ok kind ≡ kind_read (get_or s (used - 1 - l) 0)
+      → (j : ℕ) → l ≡ suc j → (found : Result ShortRecord Broken) → Tells found (after_kind kind s (used - 1) j)
+      → (main ports : ℕ) → Tells found (newest_fitted main ports s used)
+  kind_read_at low inside {kind} read₂ = tells_kind s used l L.0 low (omega (arith, L)) inside (omega arith) kind read₂
 
   -- The same where L is not 3, and so 4.
-  kind_read_4 : 3 ≤ l → l ≤ used - 1 → (l ≡ 3 → ⊥) → {r₂ : Number} {kind next₂ : ℕ} → r₂ ≡ number_of (used - 1 - l + 1) (read_below 5 (slice (used - 1 - l) (used - 1 - l + 1) s)) → r₂ ≡ number.Got kind next₂
-      → (found : ShortRecord) → (4 ≤ used - 1 → Says 4 found (after_kind kind s (used - 1) 3))
-      → (main ports : ℕ) → Says (get_or s (used - 1) 0) found (newest_fitted main ports s used)
-  kind_read_4 low inside more read₂ is₂ found says = kind_read low inside read₂ is₂ 3 (omega (arith, L)) found (says (omega (arith, L)))
+  kind_read_4 : 3 ≤ l → l ≤ used - 1 → (l ≡ 3 → ⊥) → {kind : Kind} → Ok kind ≡ kind_read (get_or s (used - 1 - l) 0)
+      → (found : Result ShortRecord Broken) → (4 ≤ used - 1 → Tells found (after_kind kind s (used - 1) 3))
+      → (main ports : ℕ) → Tells found (newest_fitted main ports s used)
+  kind_read_4 low inside more read₂ found tells = kind_read_at low inside read₂ 3 (omega (arith, L)) found (tells (omega (arith, L)))
 
 -- The third byte before L is read as the marks.
-marks_read : (s : List ℕ) (end : ℕ) → 3 ≤ end → end < length s → {r : Number} {m next : ℕ} → r ≡ number_of (end - 3 + 1) (read_below 64 (slice (end - 3) (end - 3 + 1) s)) → r ≡ number.Got m next → Marked s (end - 3) m
+marks_read : (s : List ℕ) (end : ℕ) → 3 ≤ end → end < length s → {r : Number} {m next : ℕ} → r ≡ number_of (end - 3 + 1) (read_below 64 (slice (end - 3) (end - 3 + 1) s)) → r ≡ read_up_to m next → MarksAt s (end - 3) m
 marks_read s end h fits read is =
     let m = is_byte s (end - 3) (end - 3 + 1) 64 refl (omega arith) (omega arith) read is in
     record { byte = m.0; small = m.1 }
@@ -49,62 +52,88 @@ returns-in_default c =
 
 pub returns-then-l-lt-SHORTEST : goal.returns-then-l-lt-SHORTEST
 returns-then-l-lt-SHORTEST c =
-    let l = L c.args.trail.now c.args.used c.requires c.read_number.ensures c.in-Got.is in
+    let l = L c.args.trail.now c.args.used c.requires c.read_number.ensures c.in-Ok.is in
     too_few c.args.trail.now c.args.used (omega arith)
 
 pub returns-then-end-l : goal.returns-then-end-l
 returns-then-end-l c =
     let a = c.args in
-    let l = L a.trail.now a.used c.requires c.read_number.ensures c.in-Got.is in
-    says_newest a.trail.now a.used _ short.Broken l.0 (past a.trail.now (a.used - 1) _ c.if-l-lt-SHORTEST.false (omega arith) c.if-end-l.true)
+    let l = L a.trail.now a.used c.requires c.read_number.ensures c.in-Ok.is in
+    tells_newest a.trail.now a.used _ bad l.0 (past a.trail.now (a.used - 1) _ c.if-l-lt-SHORTEST.false (omega arith) c.if-end-l.true)
 
-pub returns-in_default-read_number : goal.returns-in_default-read_number
-returns-in_default-read_number c =
+pub returns-in_err-kind : goal.returns-in_err-kind
+returns-in_err-kind c =
     let s = c.args.trail.now in
     let end = c.args.used - 1 in
-    let n = c.in-Got.n in
-    let l = L s c.args.used c.requires c.read_number.ensures c.in-Got.is in
-    let large = no_byte s (end - n) (end - n + 1) 5 refl (omega arith) (omega arith) c.read_number-2.ensures c.in_default-read_number.is in
-    says_newest s c.args.used n short.Broken l.0 (kind_large s end n c.if-l-lt-SHORTEST.false (omega arith) c.if-end-l.false (omega arith) large)
+    let n = c.in-Ok.n in
+    let l = L s c.args.used c.requires c.read_number.ensures c.in-Ok.is in
+    let large = kind_unread (get_or s (end - n) 0) c.in_err-kind.field-0.0 c.in_err-kind.ensures in
+    rw (the_error c.from_residual.result c.from_residual.ensures.0)
+    (tells_newest s c.args.used n bad l.0 (kind_large s end n c.if-l-lt-SHORTEST.false (omega arith) c.if-end-l.false (omega arith) large))
+
+pub returns-in_err-two_bytes : goal.returns-in_err-two_bytes
+returns-in_err-two_bytes c =
+    rw (the_error c.from_residual-in_err-two_bytes.result c.from_residual-in_err-two_bytes.ensures.0)
+    (kind_read_at c.args.trail.now c.args.used c.requires c.read_number.ensures c.in-Ok.is c.if-l-lt-SHORTEST.false c.if-end-l.false c.in_ok-kind.ensures
+    2 c.if-l-eq-SHORTEST.true bad c.in_err-two_bytes.ensures)
 
 pub returns-then-l-eq-SHORTEST : goal.returns-then-l-eq-SHORTEST
 returns-then-l-eq-SHORTEST c =
-    kind_read c.args.trail.now c.args.used c.requires c.read_number.ensures c.in-Got.is c.if-l-lt-SHORTEST.false c.if-end-l.false c.read_number-2.ensures c.in-Got-read_number.is
-    2 c.if-l-eq-SHORTEST.true c.two_bytes.result c.two_bytes.ensures
+    kind_read_at c.args.trail.now c.args.used c.requires c.read_number.ensures c.in-Ok.is c.if-l-lt-SHORTEST.false c.if-end-l.false c.in_ok-kind.ensures
+    2 c.if-l-eq-SHORTEST.true (Ok c.in_ok-two_bytes.field-0) c.in_ok-two_bytes.ensures
 
-pub returns-in_default-read_number-2 : goal.returns-in_default-read_number-2
-returns-in_default-read_number-2 c =
+pub returns-in_err-marks : goal.returns-in_err-marks
+returns-in_err-marks c =
     let s = c.args.trail.now in
     let end = c.args.used - 1 in
-    let large = no_byte s (end - 3) (end - 3 + 1) 64 refl (omega arith) (omega arith) c.read_number-3.ensures c.in_default-read_number-2.is in
-    kind_read_4 s c.args.used c.requires c.read_number.ensures c.in-Got.is c.if-l-lt-SHORTEST.false c.if-end-l.false c.if-l-eq-SHORTEST.false c.read_number-2.ensures c.in-Got-read_number.is
-    short.Broken (λ four. marks_broken c.in-Got-read_number.kind s end 3 (get_or s (end - 3) 0) (omega arith) four (omega arith) refl large)
+    let large = no_byte s (end - 3) (end - 3 + 1) 64 refl (omega arith) (omega arith) c.read_number-2.ensures c.in_err-marks.was in
+    rw (the_error c.from_residual-in_err-marks.result c.from_residual-in_err-marks.ensures.0)
+    (kind_read_4 s c.args.used c.requires c.read_number.ensures c.in-Ok.is c.if-l-lt-SHORTEST.false c.if-end-l.false c.if-l-eq-SHORTEST.false c.in_ok-kind.ensures
+    bad (λ four. marks_broken c.in_ok-kind.kind s end 3 (get_or s (end - 3) 0) (omega arith) four (omega arith) refl large))
 
 pub wide_p-requires : goal.wide_p-requires
 wide_p-requires c =
-    let l = L c.args.trail.now c.args.used c.requires c.read_number.ensures c.in-Got.is in
-    (omega arith, omega arith, marks_read c.args.trail.now (c.args.used - 1) (omega arith) (omega arith) c.read_number-3.ensures c.in-Got-read_number-2.is, c.if-marks-eq0.true)
+    let l = L c.args.trail.now c.args.used c.requires c.read_number.ensures c.in-Ok.is in
+    (omega arith, omega arith, marks_read c.args.trail.now (c.args.used - 1) (omega arith) (omega arith) c.read_number-2.ensures c.in_ok-marks.was, c.if-marks-eq0.true)
+
+pub returns-in_err-wide_p : goal.returns-in_err-wide_p
+returns-in_err-wide_p c =
+    rw (the_error c.from_residual-in_err-wide_p.result c.from_residual-in_err-wide_p.ensures.0)
+    (kind_read_4 c.args.trail.now c.args.used c.requires c.read_number.ensures c.in-Ok.is c.if-l-lt-SHORTEST.false c.if-end-l.false c.if-l-eq-SHORTEST.false c.in_ok-kind.ensures
+    bad (λ four. c.in_err-wide_p.ensures))
 
 pub returns-then-marks-eq0 : goal.returns-then-marks-eq0
 returns-then-marks-eq0 c =
-    kind_read_4 c.args.trail.now c.args.used c.requires c.read_number.ensures c.in-Got.is c.if-l-lt-SHORTEST.false c.if-end-l.false c.if-l-eq-SHORTEST.false c.read_number-2.ensures c.in-Got-read_number.is
-    c.wide_p.result (λ four. c.wide_p.ensures)
+    kind_read_4 c.args.trail.now c.args.used c.requires c.read_number.ensures c.in-Ok.is c.if-l-lt-SHORTEST.false c.if-end-l.false c.if-l-eq-SHORTEST.false c.in_ok-kind.ensures
+    (Ok c.in_ok-wide_p.field-0) (λ four. c.in_ok-wide_p.ensures)
 
-pub returns-in_default-two_numbers : goal.returns-in_default-two_numbers
-returns-in_default-two_numbers c =
+pub returns-in_err-p : goal.returns-in_err-p
+returns-in_err-p c =
     let s = c.args.trail.now in
     let end = c.args.used - 1 in
-    let marks = marks_read s end (omega arith) (omega arith) c.read_number-3.ensures c.in-Got-read_number-2.is in
-    kind_read_4 s c.args.used c.requires c.read_number.ensures c.in-Got.is c.if-l-lt-SHORTEST.false c.if-end-l.false c.if-l-eq-SHORTEST.false c.read_number-2.ensures c.in-Got-read_number.is
-    short.Broken (λ four. pair_broken c.in-Got-read_number.kind s end _ four (omega arith) marks c.if-marks-eq0.false (pair_is s end c.in_default-two_numbers.is c.two_numbers.ensures))
+    let marks = marks_read s end (omega arith) (omega arith) c.read_number-2.ensures c.in_ok-marks.was in
+    rw (the_error c.from_residual-in_err-p.result c.from_residual-in_err-p.ensures.0)
+    (kind_read_4 s c.args.used c.requires c.read_number.ensures c.in-Ok.is c.if-l-lt-SHORTEST.false c.if-end-l.false c.if-l-eq-SHORTEST.false c.in_ok-kind.ensures
+    bad (λ four. pair_broken c.in_ok-kind.kind s end _ four (omega arith) marks c.if-marks-eq0.false c.in_err-p.ensures))
+
+-- P and the value are read: what is made of them is told.
+module _ (s : List ℕ) (end : ℕ) (kind : Kind) (m : ℕ) (marks : MarksAt s (end - 3) m) (some : m % 16 ≡ 0 → ⊥) (fits : end < length s) {p v : ℕ} (two : TwoBytes s end (read_up_to p v)) where
+  value_told : {r : Result ShortRecord Broken} → r ≡ with_value kind m p v (end - 4) → 4 ≤ end → Tells r (after_kind kind s end 3)
+  value_told e four = rw e (pair_says kind s end m four fits marks some p v two)
+
+pub returns-in_err-with_value : goal.returns-in_err-with_value
+returns-in_err-with_value c =
+    let s = c.args.trail.now in
+    let end = c.args.used - 1 in
+    let marks = marks_read s end (omega arith) (omega arith) c.read_number-2.ensures c.in_ok-marks.was in
+    rw (the_error c.from_residual-in_err-with_value.result c.from_residual-in_err-with_value.ensures.0)
+    (kind_read_4 s c.args.used c.requires c.read_number.ensures c.in-Ok.is c.if-l-lt-SHORTEST.false c.if-end-l.false c.if-l-eq-SHORTEST.false c.in_ok-kind.ensures
+    bad (value_told s end c.in_ok-kind.kind c.in_ok-marks.marks marks c.if-marks-eq0.false (omega arith) c.in_ok-p.ensures c.in_err-with_value.ensures))
 
 pub returns : goal.returns
 returns c =
     let s = c.args.trail.now in
     let end = c.args.used - 1 in
-    let kind = c.in-Got-read_number.kind in
-    let marks = marks_read s end (omega arith) (omega arith) c.read_number-3.ensures c.in-Got-read_number-2.is in
-    kind_read_4 s c.args.used c.requires c.read_number.ensures c.in-Got.is c.if-l-lt-SHORTEST.false c.if-end-l.false c.if-l-eq-SHORTEST.false c.read_number-2.ensures c.in-Got-read_number.is
-    c.with_value.result
-    (λ four. subst (λ (r : ShortRecord). Says 4 r (after_kind kind s end 3)) (sym c.with_value.ensures)
-    (pair_says kind s end _ four (omega arith) marks c.if-marks-eq0.false c.in-Got-two_numbers.p c.in-Got-two_numbers.value (pair_is s end c.in-Got-two_numbers.is c.two_numbers.ensures)))
+    let marks = marks_read s end (omega arith) (omega arith) c.read_number-2.ensures c.in_ok-marks.was in
+    kind_read_4 s c.args.used c.requires c.read_number.ensures c.in-Ok.is c.if-l-lt-SHORTEST.false c.if-end-l.false c.if-l-eq-SHORTEST.false c.in_ok-kind.ensures
+    (Ok c.in_ok-with_value.field-0) (value_told s end c.in_ok-kind.kind c.in_ok-marks.marks marks c.if-marks-eq0.false (omega arith) c.in_ok-p.ensures c.in_ok-with_value.ensures)

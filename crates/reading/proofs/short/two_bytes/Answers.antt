@@ -6,39 +6,41 @@ use native.Mathlib.Omega.{arith}
 use lib.ListN.{get_or}
 use lib.Seq.{slice}
 use mathlib.Core.List.{[], ◌∷◌}
-use Rattle.reading.proofs.ReadingNumbers.{last_byte, is_byte, no_byte}
+use Rattle.reading.proofs.ReadingNumbers.{last_byte, is_byte, no_byte, the_error}
 use Rattle.reading.proofs.ShortRecords.{marks_broken, p_kept, p_lacking, p_alone}
 use Rattle.reading.proofs.short.two_bytes.Goals as goal
 
-pub returns-in_default : goal.returns-in_default
-returns-in_default c =
+pub returns-in_err-marks : goal.returns-in_err-marks
+returns-in_err-marks c =
     let a = c.args in
     let s = a.trail.now in
-    let large = no_byte s (a.end - 2) (a.end - 2 + 1) 64 refl (omega arith) (omega arith) c.read_number.ensures c.in_default.is in
-    marks_broken a.kind s a.end 2 (get_or s (a.end - 2) 0) (omega arith) (omega arith) (omega arith) refl large
+    let large = no_byte s (a.end - 2) (a.end - 2 + 1) 64 refl (omega arith) (omega arith) c.read_number.ensures c.in_err-marks.was in
+    rw (the_error c.from_residual.result c.from_residual.ensures.0)
+    (marks_broken a.kind s a.end 2 (get_or s (a.end - 2) 0) (omega arith) (omega arith) (omega arith) refl large)
 
 pub returns-then-marks-ne0 : goal.returns-then-marks-ne0
 returns-then-marks-ne0 c =
     let a = c.args in
     let s = a.trail.now in
-    let m = is_byte s (a.end - 2) (a.end - 2 + 1) 64 refl (omega arith) (omega arith) c.read_number.ensures c.in-Got.is in
+    let m = is_byte s (a.end - 2) (a.end - 2 + 1) 64 refl (omega arith) (omega arith) c.read_number.ensures c.in_ok-marks.was in
     let b = last_byte s (a.end - 2 + 1) a.end (omega arith) (omega arith) in
     p_alone a.kind s a.end 2 _ (omega arith) (omega arith) (omega arith) m.0 m.1 _ b c.if-marks-ne0.true
 
-pub returns-in_default-read_number : goal.returns-in_default-read_number
-returns-in_default-read_number c =
+pub returns-in_err-p : goal.returns-in_err-p
+returns-in_err-p c =
     let a = c.args in
     let s = a.trail.now in
-    let m = is_byte s (a.end - 2) (a.end - 2 + 1) 64 refl (omega arith) (omega arith) c.read_number.ensures c.in-Got.is in
+    let m = is_byte s (a.end - 2) (a.end - 2 + 1) 64 refl (omega arith) (omega arith) c.read_number.ensures c.in_ok-marks.was in
     let b = last_byte s (a.end - 2 + 1) a.end (omega arith) (omega arith) in
-    let large = no_byte s (a.end - 2 + 1) a.end 128 (omega arith) (omega arith) (omega arith) c.read_number-2.ensures c.in_default-read_number.is in
-    p_lacking a.kind s a.end 2 _ (omega arith) (omega arith) (omega arith) m.0 m.1 _ b large
+    let large = no_byte s (a.end - 2 + 1) a.end 128 (omega arith) (omega arith) (omega arith) c.read_number-2.ensures c.in_err-p.was in
+    rw (the_error c.from_residual-in_err-p.result c.from_residual-in_err-p.ensures.0)
+    (p_lacking a.kind s a.end 2 _ (omega arith) (omega arith) (omega arith) m.0 m.1 _ b large)
 
 pub returns : goal.returns
 returns c =
     let a = c.args in
     let s = a.trail.now in
-    let m = is_byte s (a.end - 2) (a.end - 2 + 1) 64 refl (omega arith) (omega arith) c.read_number.ensures c.in-Got.is in
-    let p = is_byte s (a.end - 2 + 1) a.end 128 (omega arith) (omega arith) (omega arith) c.read_number-2.ensures c.in-Got-read_number.is in
-    let b : slice (a.end - 2 + 1) a.end s ≡ c.in-Got-read_number.p ∷ [] = rw (last_byte s (a.end - 2 + 1) a.end (omega arith) (omega arith), p.0) in
-    p_kept a.kind s a.end 2 _ (omega arith) (omega arith) (omega arith) m.0 m.1 _ b c.if-marks-ne0.false p.1
+    let m = is_byte s (a.end - 2) (a.end - 2 + 1) 64 refl (omega arith) (omega arith) c.read_number.ensures c.in_ok-marks.was in
+    let p = is_byte s (a.end - 2 + 1) a.end 128 (omega arith) (omega arith) (omega arith) c.read_number-2.ensures c.in_ok-p.was in
+    let b : slice (a.end - 2 + 1) a.end s ≡ c.in_ok-p.p ∷ [] = rw (last_byte s (a.end - 2 + 1) a.end (omega arith) (omega arith), p.0) in
+    rw c.unmarked.ensures (p_kept a.kind s a.end 2 _ (omega arith) (omega arith) (omega arith) m.0 m.1 _ b c.if-marks-ne0.false p.1)

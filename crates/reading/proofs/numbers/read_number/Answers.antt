@@ -1,4 +1,4 @@
--- `number_at` meets its contract: a law for two groups, one for three, and one for more; the other ways out need none here.
+-- `read_number` meets its contract: a law for two groups, one for three, and one for more; the other ways out need none here.
 -- Assumes nothing.
 use Prim.Native.Nat.{ℕ, ◌+◌, ◌-◌, ◌*◌, ◌%◌, ◌<◌}
 use mathlib.Core.Path.{◌≡◌}
@@ -8,7 +8,7 @@ use lib.Dec.{ltb}
 use mathlib.Core.Bool.{true, ◌&&◌}
 use Rattle.std.proofs.lemmas.Bool.Decides.{nat_tests}
 use Rattle.reading.proofs.ReadingGroups.{two_groups, three_groups, more_groups}
-use Rattle.reading.proofs.numbers.number_at.Goals as goal
+use Rattle.reading.proofs.numbers.read_number.Goals as goal
 
 -- What the tests say of the number n, whose last group is the second byte or the third.
 second_fits : (last n bound : ℕ) → (ltb 0 last && ltb n bound) ≡ true → (0 < last) × (n < bound)
