@@ -1,6 +1,7 @@
 -- A text is judged by its first bytes: with room for n words the routine is decided by n lines of nine bytes and one byte more, which would begin a line too many.
 -- Assumes nothing.
 use Prim.Native.Nat.{ℕ, zero, suc, ◌+◌, ◌*◌}
+use Rattle.std.specs.Prelude.{Option, None}
 use mathlib.Core.Path.{◌≡◌, refl, ap}
 use mathlib.Core.Bool.{cond}
 use mathlib.Core.List.{List, [], ◌∷◌}
@@ -11,8 +12,6 @@ use lib.ListN.{take, drop}
 use lib.Seq.{take-nil}
 use Rattle.text.specs.Digits.{digit_value}
 use Rattle.counter.specs.Routine.{line_after, routine_of}
-use Rattle.counter.specs.declared.routine.Line.{Line}
-use Rattle.counter.specs.declared.routine.Line.TheVariants.{IllFormed}
 
 -- A line of k digits is decided by k + 1 bytes.
 line_by_first : (k v m : ℕ) (text : List ℕ) → line_after k v (take (suc k + m) text) ≡ line_after k v text
@@ -20,7 +19,7 @@ line_by_first k v m [] = rw (take-nil)
 line_by_first zero v m (b ∷ text) = rw (suc-add)
 line_by_first (suc k) v m (b ∷ text) =
     rw suc-add
-    (ap (λ (l : Line). cond (ltb (digit_value b) 16) l IllFormed) (line_by_first k (v * 16 + digit_value b) m text))
+    (ap (λ (l : Option ℕ). cond (ltb (digit_value b) 16) l None) (line_by_first k (v * 16 + digit_value b) m text))
 
 drop_of_take : (k m : ℕ) (l : List ℕ) → drop k (take (k + m) l) ≡ take m (drop k l)
 drop_of_take zero m l = rw zero-add

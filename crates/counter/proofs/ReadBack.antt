@@ -2,6 +2,7 @@
 -- Assumes nothing.
 use Prim.Native.Nat.{ℕ, zero, suc, ◌+◌, ◌*◌, ◌/◌, ◌%◌, ◌^◌, ◌<◌}
 use Prim.Native.Char.{code}
+use Rattle.std.specs.Prelude.{Some}
 use mathlib.Core.Path.{◌≡◌}
 use mathlib.Core.List.{List, ◌∷◌, ◌++◌, append_assoc}
 use native.Mathlib.Omega.{arith}
@@ -9,7 +10,6 @@ use native.Mathlib.Nat.{zero-add}
 use borrow.Author.Tests.{lt-ltb}
 use Rattle.text.specs.Digits.{digit, hex}
 use Rattle.counter.specs.Routine.{line_after, first_line}
-use Rattle.counter.specs.declared.routine.Line.TheVariants.{Word}
 use Rattle.text.proofs.Digits.{sixteens}
 use Rattle.text.proofs.ReadBack.{digit_again}
 
@@ -25,5 +25,5 @@ digits_again (suc k) j n rest h =
     let w = digit_again (n % 16) (omega arith) in
     rw (e, append_assoc, digits_again k (suc j) (n / 16) (d ∷ rest) (omega arith), w, lt-ltb (n % 16) 16 (omega arith), v)
 
-pub line_again : (w : ℕ) (rest : List ℕ) → w < 2 ^ 32 → first_line (hex 8 w ++ (code "\n" ∷ rest)) ≡ Word w
+pub line_again : (w : ℕ) (rest : List ℕ) → w < 2 ^ 32 → first_line (hex 8 w ++ (code "\n" ∷ rest)) ≡ Some w
 line_again w rest h = digits_again 8 0 w (code "\n" ∷ rest) h

@@ -1,5 +1,6 @@
 -- The worked example of document 01, "The counter program", by computation: the text is read as its four words, and both lines come out byte for byte.
 -- Assumes nothing.
+use Rattle.std.specs.Prelude.{Ok, Err}
 use mathlib.Core.Path.{◌≡◌, refl}
 use mathlib.Core.Bool.{true, false}
 use mathlib.Core.List.{[], ◌∷◌}
@@ -7,7 +8,7 @@ use Rattle.machine.specs.declared.Machine.{Machine}
 use Rattle.machine.specs.declared.Ending.TheVariants.{Stopped}
 use Rattle.text.specs.Text.{text}
 use Rattle.text.specs.Digits.{digit_value}
-use Rattle.counter.specs.Routine.{words, bad, routine_of}
+use Rattle.counter.specs.Routine.{routine_of}
 use Rattle.text.specs.Digits.{decimal_in, decimal, hex}
 use Rattle.counter.specs.Lines.{registers, in_use, run_line, back_line, bad_line}
 
@@ -19,7 +20,7 @@ reset = record { a = 0; x = 0; y = 0; p = 0; b = false; stop = false }
 
 pub routine_read :
     routine_of 8192 (text "00300005\n1E00000A\n01200005\n00D00000\n")
-    ≡ words (0x00300005 ∷ 0x1E00000A ∷ 0x01200005 ∷ 0x00D00000 ∷ [])
+    ≡ Ok (0x00300005 ∷ 0x1E00000A ∷ 0x01200005 ∷ 0x00D00000 ∷ [])
 unfolding routine_of digit_value
 routine_read = refl
 
@@ -36,7 +37,7 @@ unfolding back_line registers in_use decimal decimal_in hex
 back_printed = refl
 
 -- The third line has a small letter.
-pub third_line_bad : routine_of 8192 (text "00300005\n1E00000A\n0120000a\n00D00000\n") ≡ bad 3
+pub third_line_bad : routine_of 8192 (text "00300005\n1E00000A\n0120000a\n00D00000\n") ≡ Err 3
 unfolding routine_of digit_value
 third_line_bad = refl
 

@@ -4,5 +4,5 @@
 mod lines;
 mod routine;
 
-pub use lines::{back_line, bad_line, put_register, run_line};
-pub use routine::{Line, Loaded, line_at, load};
+pub use lines::{back_line, bad_line, push_register, run_line};
+pub use routine::{BadLine, load, read_line};

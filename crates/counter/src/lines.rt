@@ -1,97 +1,100 @@
-// Printing (document 01, "The counter program"): the lines of bench, each put at the start of a buffer.
-ghost use Rattle.std.specs.Prelude.{◌+◌, ◌≤◌, ◌++◌, length};
+// Printing (document 01, "The counter program"): the lines of bench.
+ghost use Rattle.std.specs.Prelude.{◌≡◌, ◌+◌, ◌≤◌, ◌++◌, length};
 ghost use Rattle.text.specs.Digits.{hex};
-ghost use Rattle.text.specs.Placed.{Placed};
 ghost use Rattle.counter.specs.Lines.{flag, name, registers, in_use, run_line, back_line, bad_line};
 
 use machine::{Ending, Machine};
-use text::{put_byte, put_decimal, put_hex, put_text};
+use text::Text;
 
-// Each function that puts something into the buffer from a place on answers the place after it.
+// A line, longer than any that is printed.
+type Line = Text<160>;
 
 // A label, and the last digits of a value in hex.
-pub fn put_register(out: &mut [u8], at: usize, label: &[u8], width: usize, value: u32) -> usize
-    requires { at + (length label.now + width) ≤ length out.old }
-    ensures { Placed at (label.now ++ hex width value) out.old result out.new }
+pub fn push_register<const N: usize>(line: &mut Text<N>, label: &[u8], width: usize, value: u32)
+    requires { length line.old + (length label.now + width) ≤ N }
+    ensures { line.new ≡ line.old ++ (label.now ++ hex width value) }
 {
-    let digits = put_text(out, at, label);
-    put_hex(out, digits, width, value as usize)
+    line.push_text(label);
+    line.push_hex(width, value as usize);
 }
 
-fn put_flag(out: &mut [u8], at: usize, label: &[u8], set: bool) -> usize
-    requires { at + (length label.now + 1) ≤ length out.old }
-    ensures { Placed at (label.now ++ flag set) out.old result out.new }
+fn push_flag(line: &mut Line, label: &[u8], set: bool)
+    requires { length line.old + (length label.now + 1) ≤ 160 }
+    ensures { line.new ≡ line.old ++ (label.now ++ flag set) }
 {
-    let digit = put_text(out, at, label);
-    if set {
-        return put_byte(out, digit, b'1');
-    }
-    put_byte(out, digit, b'0')
+    line.push_text(label);
+    line.push(if set { b'1' } else { b'0' });
 }
 
-fn put_registers(out: &mut [u8], at: usize, m: Machine) -> usize
-    requires { at + length (registers m) ≤ length out.old }
-    ensures { Placed at (registers m) out.old result out.new }
+fn push_registers(line: &mut Line, m: Machine)
+    requires { length line.old + 49 ≤ 160 }
+    ensures { line.new ≡ line.old ++ registers m }
 {
-    let mut next = put_register(out, at, b" P ", 5, m.p);
-    next = put_register(out, next, b" A ", 8, m.a);
-    next = put_register(out, next, b" X ", 8, m.x);
-    next = put_register(out, next, b" Y ", 8, m.y);
-    next = put_flag(out, next, b" B ", m.b);
-    put_flag(out, next, b" S ", m.stop)
+    push_register(line, b" P ", 5, m.p);
+    push_register(line, b" A ", 8, m.a);
+    push_register(line, b" X ", 8, m.x);
+    push_register(line, b" Y ", 8, m.y);
+    push_flag(line, b" B ", m.b);
+    push_flag(line, b" S ", m.stop);
 }
 
-fn put_ending(out: &mut [u8], at: usize, ending: Ending) -> usize
-    requires { at + length (name ending) ≤ length out.old }
-    ensures { Placed at (name ending) out.old result out.new }
+fn name(ending: Ending) -> &'static [u8]
+    ensures { result.now ≡ name ending }
 {
     match ending {
-        Ending::Stopped => put_text(out, at, b"stopped"),
-        Ending::Budget => put_text(out, at, b"budget"),
-        Ending::Unfitted => put_text(out, at, b"unfitted"),
-        Ending::Full => put_text(out, at, b"full"),
+        Ending::Stopped => b"stopped",
+        Ending::Budget => b"budget",
+        Ending::Unfitted => b"unfitted",
+        Ending::Full => b"full",
     }
 }
 
-fn put_in_use(out: &mut [u8], at: usize, used: usize) -> usize
-    requires { at + length (in_use used) ≤ length out.old }
-    ensures { Placed at (in_use used) out.old result out.new }
+#[tactic(auto, unfolding(crate::specs::Lines::in_use), using(text::proofs::Digits::twenty_digits))]
+fn push_in_use(line: &mut Line, used: usize)
+    requires { length line.old + 28 ≤ 160 }
+    ensures { line.new ≡ line.old ++ in_use used }
 {
-    let mut next = put_text(out, at, b" trail ");
-    next = put_decimal(out, next, used);
-    put_text(out, next, b"\n")
+    line.push_text(b" trail ");
+    line.push_decimal(used);
+    line.push_text(b"\n");
 }
 
-// The line of a run: the steps done, the ending, the machine and the bytes in use. Answers the line's length.
-pub fn run_line(out: &mut [u8; 160], steps: u32, ending: Ending, m: Machine, used: usize) -> usize
-    ensures { Placed 0 (run_line steps ending m used) out.old result out.new }
+// The line of a run: the steps done, the ending, the machine and the bytes in use.
+#[tactic(auto, unfolding(crate::specs::Lines::run_line), using(text::proofs::Digits::twenty_digits, crate::proofs::Lengths::name_length, crate::proofs::Lengths::registers_length, crate::proofs::Lengths::in_use_length))]
+pub fn run_line(steps: u32, ending: Ending, m: Machine, used: usize) -> Text<160>
+    ensures { result ≡ run_line steps ending m used }
 {
-    let buffer: &mut [u8] = out;
-    let mut next = put_text(buffer, 0, b"steps ");
-    next = put_decimal(buffer, next, steps as usize);
-    next = put_text(buffer, next, b" ");
-    next = put_ending(buffer, next, ending);
-    next = put_registers(buffer, next, m);
-    put_in_use(buffer, next, used)
+    let mut line = Text::new();
+    line.push_text(b"steps ");
+    line.push_decimal(steps as usize);
+    line.push_text(b" ");
+    line.push_text(name(ending));
+    push_registers(&mut line, m);
+    push_in_use(&mut line, used);
+    line
 }
 
-// The line after taking back: the records taken back, the machine and the bytes in use. Answers the line's length.
-pub fn back_line(out: &mut [u8; 160], count: usize, m: Machine, used: usize) -> usize
-    ensures { Placed 0 (back_line count m used) out.old result out.new }
+// The line after taking back: the records taken back, the machine and the bytes in use.
+#[tactic(auto, unfolding(crate::specs::Lines::back_line), using(text::proofs::Digits::twenty_digits, crate::proofs::Lengths::registers_length, crate::proofs::Lengths::in_use_length))]
+pub fn back_line(count: usize, m: Machine, used: usize) -> Text<160>
+    ensures { result ≡ back_line count m used }
 {
-    let buffer: &mut [u8] = out;
-    let mut next = put_text(buffer, 0, b"back ");
-    next = put_decimal(buffer, next, count);
-    next = put_registers(buffer, next, m);
-    put_in_use(buffer, next, used)
+    let mut line = Text::new();
+    line.push_text(b"back ");
+    line.push_decimal(count);
+    push_registers(&mut line, m);
+    push_in_use(&mut line, used);
+    line
 }
 
-// The line for a bad text. Answers the line's length.
-pub fn bad_line(out: &mut [u8; 160], n: usize) -> usize
-    ensures { Placed 0 (bad_line n) out.old result out.new }
+// The line for a bad text.
+#[tactic(auto, unfolding(crate::specs::Lines::bad_line), using(text::proofs::Digits::twenty_digits))]
+pub fn bad_line(n: usize) -> Text<160>
+    ensures { result ≡ bad_line n }
 {
-    let buffer: &mut [u8] = out;
-    let mut next = put_text(buffer, 0, b"line ");
-    next = put_decimal(buffer, next, n);
-    put_text(buffer, next, b" bad\n")
+    let mut line = Text::new();
+    line.push_text(b"line ");
+    line.push_decimal(n);
+    line.push_text(b" bad\n");
+    line
 }

@@ -7,12 +7,8 @@ use Rattle.counter.specs.Routine.{routine_of, answer}
 use Rattle.counter.proofs.Reading.{after_lines}
 use Rattle.counter.proofs.routine.judge.Given as goal
 
-abbrev pub invariant-loop-at : goal.invariant-loop-at
-invariant-loop-at l =
-    (l.at ≡ 9 * l.done)
-    × (l.at ≤ length l.text)
+abbrev pub invariant-loop-done : goal.invariant-loop-done
+invariant-loop-done l =
+    (9 * l.done ≤ length l.text)
     × (l.done ≤ l.room)
-    × (answer (routine_of l.room l.text) ≡ after_lines l.done (answer (routine_of (l.room - l.done) (drop l.at l.text))))
-
-abbrev pub decreases-loop-at : goal.decreases-loop-at
-decreases-loop-at l = length l.text - l.at
+    × (answer (routine_of l.room l.text) ≡ after_lines l.done (answer (routine_of (l.room - l.done) (drop (9 * l.done) l.text))))

@@ -4,19 +4,14 @@ use Prim.Native.Nat.{◌*◌, ◌-◌, ◌≤◌}
 use mathlib.Core.Path.{◌≡◌}
 use mathlib.Core.List.{◌++◌}
 use lib.ListN.{length, take, drop}
-use Rattle.counter.specs.Routine.{words, routine_of}
+use Rattle.std.specs.Prelude.{Ok}
+use Rattle.counter.specs.Routine.{routine_of}
 use Rattle.counter.proofs.Reading.{words_in}
 use Rattle.counter.proofs.routine.store.Given as goal
 
 abbrev pub invariant-loop-done : goal.invariant-loop-done
 invariant-loop-done l =
     let ws = words_in (routine_of (length l.initial.main) l.text) in
-    (l.at ≡ 9 * l.done)
-    × (l.at ≤ length l.text)
-    × (l.done ≤ l.count)
-    × (length l.main ≡ length l.initial.main)
+    (9 * l.done ≤ length l.text)
     × (l.main ≡ take l.done ws ++ drop l.done l.initial.main)
-    × (routine_of (length l.initial.main - l.done) (drop l.at l.text) ≡ words (drop l.done ws))
-
-abbrev pub decreases-loop-done : goal.decreases-loop-done
-decreases-loop-done l = l.count - l.done
+    × (routine_of (length l.initial.main - l.done) (drop (9 * l.done) l.text) ≡ Ok (drop l.done ws))
