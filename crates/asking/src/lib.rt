@@ -5,4 +5,4 @@ mod answers;
 mod place;
 
 pub use answers::hit_line;
-pub use place::{Asked, asked_place};
+pub use place::asked_place;
