@@ -1,6 +1,7 @@
 -- One step in the code's terms: the change that was planned, once finished, is the operation `step` done, and refusals 5 and 6 are those of the table.
 -- Then a run of steps: the definition at the start is the definition at the present bench, with the steps done counted along.
 -- Assumes nothing.
+use Prim.{tt}
 use mathlib.Core.Path.{◌≡◌, refl, sym, ap, ◌∙◌}
 use mathlib.Core.Bool.{Bool, true, false, cond, ◌||◌}
 use mathlib.Core.List.{List}
@@ -22,18 +23,20 @@ use Rattle.machine.specs.declared.Ending.{Ending}
 use Rattle.machine.specs.declared.Ending.TheVariants as ending
 use Rattle.trail.specs.declared.Kind.TheVariants as kind
 use Rattle.trail.specs.declared.Kind.{Kind}
-use Rattle.trail.specs.Records.{record_of, changed_word, put, added}
-use Rattle.trail.specs.declared.Added.{Added}
-use Rattle.trail.specs.declared.Added.TheVariants as added_case
+use Rattle.trail.specs.Records.{record_of, changed_word, put, added, trail_full}
+use Rattle.trail.specs.declared.TrailFull.{TrailFull}
 use Rattle.trail.proofs.Adding.{put_length}
 use Rattle.step.specs.Phases as phases
-use Rattle.viper.specs.declared.Answer.{Answer}
-use Rattle.viper.specs.declared.Answer.TheVariants.{Done, Refused}
+use Rattle.std.specs.Prelude.{Result, Ok, Err}
+use Rattle.viper.specs.Refusals.{Answer}
 use Rattle.viper.specs.declared.Refusal.{Refusal}
 use Rattle.viper.specs.declared.Refusal.TheVariants as refusal
-use Rattle.step.specs.Phases.{Written, Change, Plan, lacks, step_unfitted, writing, change_of, planned}
-use Rattle.step.specs.Finishing.{Addressed, changing, rewritten, left, Finish, finishing, finished, End, ended, answered_by, by_plan, once}
+use Rattle.step.specs.Phases.{held, Written, Change, Plan, lacks, step_unfitted, writing, change_of, planned}
+use Rattle.step.specs.Finishing.{Kept, came, Addressed, changing, rewritten, left, Finish, finishing, finished, End, ended, answered_by, by_plan, once}
 use Rattle.step.specs.Finishing as stepped_case
+use Rattle.step.specs.declared.finish.Next.{Next}
+use Rattle.step.specs.declared.finish.Undone.{Undone}
+use Rattle.step.specs.declared.finish.Undone.TheVariants as undone
 use Rattle.viper.specs.Operations.{Bench, step, record_for, operate, applies, answer, done}
 use Rattle.viper.specs.Runs.{Ran, ends, ending_of, unless_stopped, stepped as by_answer, over_and_over}
 use Rattle.step.specs.Lawful.{Lawful}
@@ -86,15 +89,15 @@ written_low computes w x y q e = let z : ◌≡◌ {A = ℕ} 0 1 = cc in absurd 
 
 pub finished_between : (k : Kind) (old new : State) (q : Option Where) (trail : List ℕ) (used : ℕ) → rewritten old.0 (writing q new.0) ≡ new.0
     → finished k (machine_of old) (record { machine = machine_of new; written = writing q new.0 }) old.0 trail used
-    ≡ cond (ltb (length trail - used) (length (record_of k old new q))) (left added_case.Full old.0 trail)
-    (left (added_case.Used (used + length (record_of k old new q))) new.0 (put trail used (record_of k old new q)))
+    ≡ cond (ltb (length trail - used) (length (record_of k old new q))) (left (Err trail_full) old.0 trail)
+    (left (Ok (used + length (record_of k old new q))) new.0 (put trail used (record_of k old new q)))
 unfolding finished added
 finished_between k old new q trail used h = rw (changing_is old.0 new.0 q) (go (ltb (length trail - used) (length (record_of k old new q))))
   where
-    go : (f : Bool) → finishing (cond f (added_case.Full, trail) (added_case.Used (used + length (record_of k old new q)), put trail used (record_of k old new q))) old.0 (writing q new.0)
-        ≡ cond f (left added_case.Full old.0 trail) (left (added_case.Used (used + length (record_of k old new q))) new.0 (put trail used (record_of k old new q)))
+    go : (f : Bool) → finishing (cond f (Err trail_full, trail) (Ok (used + length (record_of k old new q)), put trail used (record_of k old new q))) old.0 (writing q new.0)
+        ≡ cond f (left (Err trail_full) old.0 trail) (left (Ok (used + length (record_of k old new q))) new.0 (put trail used (record_of k old new q)))
     go true = refl
-    go false = ap (λ (r : Mem). left (added_case.Used (used + length (record_of k old new q))) r (put trail used (record_of k old new q))) h
+    go false = ap (λ (r : Mem). left (Ok (used + length (record_of k old new q))) r (put trail used (record_of k old new q))) h
 
 -- ---- the refusals of a step whose first three do not apply
 
@@ -104,8 +107,8 @@ no_store_too_long main ports h k = rw (le-ltb (2 ^ 20) main h, le-ltb (2 ^ 20) p
 module _ (m : Machine) (main ports trail : List ℕ) (used : ℕ) (l : Lawful m.p (length main) (length ports) (length trail) used) (live : m.stop ≡ false) where
   -- 5, then 6
   pub answer_is : answer (operate step) (bench m main ports trail used)
-      ≡ cond (step_unfitted (state m (ram main ports))) (Refused refusal.Unfitted)
-      (cond (ltb (length trail - used) (length (record_for step (state m (ram main ports))))) (Refused refusal.TrailFull) Done)
+      ≡ cond (step_unfitted (state m (ram main ports))) (Err refusal.Unfitted)
+      (cond (ltb (length trail - used) (length (record_for step (state m (ram main ports))))) (Err refusal.TrailFull) (Ok tt))
   unfolding answer
   answer_is =
       lowest_by (applies (operate step) (bench m main ports trail used))
@@ -124,11 +127,11 @@ module _ (m : Machine) (main ports trail : List ℕ) (used : ℕ) (l : Lawful m.
   b = bench m main ports trail used
 
   -- what was planned
-  pub planned_none : phases.Lacking ≡ planned s → answer (operate step) b ≡ Refused refusal.Unfitted
+  pub planned_none : phases.Lacking ≡ planned s → answer (operate step) b ≡ Err refusal.Unfitted
   unfolding planned
   planned_none e = answer_is m main ports trail used l live ∙ go (step_unfitted s) e
     where
-      go : (u : Bool) → phases.Lacking ≡ cond u phases.Lacking (phases.Go (change_of s)) → cond u (Refused refusal.Unfitted) (cond (ltb (length trail - used) (length (record_for step s))) (Refused refusal.TrailFull) Done) ≡ Refused refusal.Unfitted
+      go : (u : Bool) → phases.Lacking ≡ cond u phases.Lacking (phases.Go (change_of s)) → cond u (Err refusal.Unfitted) (cond (ltb (length trail - used) (length (record_for step s))) (Err refusal.TrailFull) (Ok (tt {0}))) ≡ Err refusal.Unfitted
       go true q = refl
       go false q = let z : ◌≡◌ {A = ℕ} 0 1 = cc in absurd (omega arith)
 
@@ -165,43 +168,43 @@ module _ (m : Machine) (main ports trail : List ℕ) (used : ℕ) (l : Lawful m.
 
     -- the change once finished: refusal 6, or the operation done
     finished_step : finished kind.Step m c (ram main ports) trail used
-        ≡ cond (ltb (length trail - used) (length (record_for step s))) (left added_case.Full (ram main ports) trail)
-        (left (added_case.Used (used + length (record_for step s))) (NEXT s).0 (put trail used (record_for step s)))
+        ≡ cond (ltb (length trail - used) (length (record_for step s))) (left (Err trail_full) (ram main ports) trail)
+        (left (Ok (used + length (record_for step s))) (NEXT s).0 (put trail used (record_for step s)))
     finished_step = rw change_is (finished_between kind.Step s (NEXT s) (written s) trail used stores_are)
 
     -- the ways out of `finish`
-    pub no_room_left : (a : Added) (r : Mem) (t : List ℕ) → left a r t ≡ finished kind.Step m c (ram main ports) trail used → a ≡ added_case.Full
-        → (answer (operate step) b ≡ Refused refusal.TrailFull) × (r ≡ ram main ports) × (t ≡ trail)
+    pub no_room_left : (a : Result ℕ TrailFull) (r : Mem) (t : List ℕ) → left a r t ≡ finished kind.Step m c (ram main ports) trail used → a ≡ Err trail_full
+        → (answer (operate step) b ≡ Err refusal.TrailFull) × (r ≡ ram main ports) × (t ≡ trail)
     no_room_left a r t h k = go (ltb (length trail - used) (length (record_for step s))) refl (h ∙ finished_step)
       where
         go : (f : Bool) → ltb (length trail - used) (length (record_for step s)) ≡ f
-            → left a r t ≡ cond f (left added_case.Full (ram main ports) trail) (left (added_case.Used (used + length (record_for step s))) (NEXT s).0 (put trail used (record_for step s)))
-            → (answer (operate step) b ≡ Refused refusal.TrailFull) × (r ≡ ram main ports) × (t ≡ trail)
+            → left a r t ≡ cond f (left (Err trail_full) (ram main ports) trail) (left (Ok (used + length (record_for step s))) (NEXT s).0 (put trail used (record_for step s)))
+            → (answer (operate step) b ≡ Err refusal.TrailFull) × (r ≡ ram main ports) × (t ≡ trail)
         go true u q = (answer_is m main ports trail used l live ∙ rw (fits, u), ap (λ (x : Finish). x.stores) q, ap (λ (x : Finish). x.trail) q)
         go false u q =
-            let y : a ≡ added_case.Used (used + length (record_for step s)) = ap (λ (x : Finish). x.answered) q in
+            let y : a ≡ Ok (used + length (record_for step s)) = ap (λ (x : Finish). x.answered) q in
             let z : ◌≡◌ {A = ℕ} 0 1 = cc in
             absurd (omega arith)
 
     pub record Stepped (n : ℕ) (r : Mem) (t : List ℕ) : Type 0 where
-      pub accepted : answer (operate step) b ≡ Done
+      pub accepted : answer (operate step) b ≡ Ok tt
       pub count : n ≡ used + length (record_for step s)
       pub stores : r ≡ (NEXT s).0
       pub bytes : t ≡ put trail used (record_for step s)
       pub within : used + length (record_for step s) ≤ length trail
 
-    pub stepped : (a : Added) (n : ℕ) (r : Mem) (t : List ℕ) → left a r t ≡ finished kind.Step m c (ram main ports) trail used → a ≡ added_case.Used n → Stepped n r t
+    pub stepped : (a : Result ℕ TrailFull) (n : ℕ) (r : Mem) (t : List ℕ) → left a r t ≡ finished kind.Step m c (ram main ports) trail used → a ≡ Ok n → Stepped n r t
     stepped a n r t h k = go (ltb (length trail - used) (length (record_for step s))) refl (h ∙ finished_step)
       where
         go : (f : Bool) → ltb (length trail - used) (length (record_for step s)) ≡ f
-            → left a r t ≡ cond f (left added_case.Full (ram main ports) trail) (left (added_case.Used (used + length (record_for step s))) (NEXT s).0 (put trail used (record_for step s)))
+            → left a r t ≡ cond f (left (Err trail_full) (ram main ports) trail) (left (Ok (used + length (record_for step s))) (NEXT s).0 (put trail used (record_for step s)))
             → Stepped n r t
         go true u q =
-            let y : a ≡ added_case.Full = ap (λ (x : Finish). x.answered) q in
+            let y : a ≡ Err trail_full = ap (λ (x : Finish). x.answered) q in
             let z : ◌≡◌ {A = ℕ} 0 1 = cc in
             absurd (omega arith)
         go false u q =
-            let i : added_case.Used n ≡ added_case.Used (used + length (record_for step s)) = sym k ∙ ap (λ (x : Finish). x.answered) q in
+            let i : Ok n ≡ Ok (used + length (record_for step s)) = sym k ∙ ap (λ (x : Finish). x.answered) q in
             let room = ltb-false (length trail - used) (length (record_for step s)) u in
             record {
               accepted = answer_is m main ports trail used l live ∙ rw (fits, u);
@@ -256,14 +259,14 @@ module _ (budget : ℕ) (b₀ : Bench) (k : ℕ) (b : Bench) (a : Along budget b
   pub ends_budget : b.state.6 ≡ false → k ≡ budget → record { bench = b; steps = k; ended = ending.Budget } ≡ over_and_over budget b₀
   ends_budget h e = finally ending.Budget (let z : budget - k ≡ 0 = omega arith in rw z (out_of_budget b h))
 
-  pub ends_refused : (r : Refusal) → b.state.6 ≡ false → k < budget → answer (operate step) b ≡ Refused r → record { bench = b; steps = k; ended = ending_of r } ≡ over_and_over budget b₀
-  ends_refused r h l e = finally (ending_of r) (let z : budget - k ≡ suc (budget - (k + 1)) = omega arith in rw z (turn (budget - (k + 1)) b (Refused r) h e))
+  pub ends_refused : (r : Refusal) → b.state.6 ≡ false → k < budget → answer (operate step) b ≡ Err r → record { bench = b; steps = k; ended = ending_of r } ≡ over_and_over budget b₀
+  ends_refused r h l e = finally (ending_of r) (let z : budget - k ≡ suc (budget - (k + 1)) = omega arith in rw z (turn (budget - (k + 1)) b (Err r) h e))
 
-  pub along_next : b.state.6 ≡ false → k < budget → answer (operate step) b ≡ Done → Along budget b₀ (k + 1) (done step b)
+  pub along_next : b.state.6 ≡ false → k < budget → answer (operate step) b ≡ Ok tt → Along budget b₀ (k + 1) (done step b)
   along_next h l e =
       let z : budget - k ≡ suc (budget - (k + 1)) = omega arith in
       let rest = over_and_over (budget - (k + 1)) (done step b) in
-      a ∙ (rw (z, turn (budget - (k + 1)) b Done h e) (ap (λ (n : ℕ). record { bench = rest.bench; steps = n; ended = rest.ended }) (omega arith)))
+      a ∙ (rw (z, turn (budget - (k + 1)) b (Ok tt) h e) (ap (λ (n : ℕ). record { bench = rest.bench; steps = n; ended = rest.ended }) (omega arith)))
 
 -- ---- the loop of `advance`
 
@@ -305,19 +308,19 @@ pub same_bench : {s₁ s₂ : State} {t₁ t₂ : List ℕ} {n₁ n₂ : ℕ} �
 same_bench e f g = cc
 
 -- what `answered_by` tells
-not_unfitted : (m : Machine) (x : Added) → stepped_case.Unfitted ≡ answered_by m x → ⊥
-not_unfitted m added_case.Full e = let n : ◌≡◌ {A = ℕ} 0 1 = cc in omega arith
-not_unfitted m (added_case.Used k) e = let n : ◌≡◌ {A = ℕ} 0 1 = cc in omega arith
+not_unfitted : (m : Machine) (x : Result ℕ TrailFull) → stepped_case.Unfitted ≡ answered_by m x → ⊥
+not_unfitted m (Err x) e = let n : ◌≡◌ {A = ℕ} 0 1 = cc in omega arith
+not_unfitted m (Ok k) e = let n : ◌≡◌ {A = ℕ} 0 1 = cc in omega arith
 
-was_full : (m : Machine) (x : Added) → stepped_case.NoRoom ≡ answered_by m x → x ≡ added_case.Full
-was_full m added_case.Full e = refl
-was_full m (added_case.Used k) e = let n : ◌≡◌ {A = ℕ} 0 1 = cc in absurd (omega arith)
+was_full : (m : Machine) (x : Result ℕ TrailFull) → stepped_case.NoRoom ≡ answered_by m x → x ≡ Err trail_full
+was_full m (Err x) e = refl
+was_full m (Ok k) e = let n : ◌≡◌ {A = ℕ} 0 1 = cc in absurd (omega arith)
 
-was_done : (m : Machine) (x : Added) (m' : Machine) (n : ℕ) → stepped_case.Done m' n ≡ answered_by m x → (x ≡ added_case.Used n) × (m' ≡ m)
-was_done m added_case.Full m' n e = let k : ◌≡◌ {A = ℕ} 0 1 = cc in absurd (omega arith)
-was_done m (added_case.Used k) m' n e = (cc, cc)
+was_done : (m : Machine) (x : Result ℕ TrailFull) (m' : Machine) (n : ℕ) → stepped_case.Done m' n ≡ answered_by m x → (x ≡ Ok n) × (m' ≡ m)
+was_done m (Err x) m' n e = let k : ◌≡◌ {A = ℕ} 0 1 = cc in absurd (omega arith)
+was_done m (Ok k) m' n e = (cc, cc)
 
-same_finish : {a a' : Added} {r r' : Mem} {t t' : List ℕ} → a ≡ a' → r ≡ r' → t ≡ t' → left a r t ≡ left a' r' t'
+same_finish : {a a' : Result ℕ TrailFull} {r r' : Mem} {t t' : List ℕ} → a ≡ a' → r ≡ r' → t ≡ t' → left a r t ≡ left a' r' t'
 same_finish e f g = cc
 
 module _ {main₀ ports₀ trail₀ : List ℕ} {m₀ : Machine} {used budget : ℕ} {main ports trail : List ℕ} {m : Machine} {count steps : ℕ}
@@ -336,13 +339,13 @@ module _ {main₀ ports₀ trail₀ : List ℕ} {m₀ : Machine} {used budget : 
         (planned_none m main ports trail count k.lawful k.range live e)
 
     module _ (c : Change) (e : phases.Go c ≡ planned (state m (ram main ports))) where
-      pub leaves_full : (a : Added) (r : Mem) (t : List ℕ) → left a r t ≡ finished kind.Step m c (ram main ports) trail count → a ≡ added_case.Full
+      pub leaves_full : (a : Result ℕ TrailFull) (r : Mem) (t : List ℕ) → left a r t ≡ finished kind.Step m c (ram main ports) trail count → a ≡ Err trail_full
           → record { bench = record { state = state m r; trail = t; used = count }; steps = steps; ended = ending.Full } ≡ over_and_over budget (bench m₀ main₀ ports₀ trail₀ used)
       leaves_full a r t h f =
           let o = no_room_left m main ports trail count k.lawful k.range live c e a r t h f in
           rw (o.1, o.2) (ends_refused budget _ steps (bench m main ports trail count) k.along refusal.TrailFull live less o.0)
 
-      pub goes_on : (a : Added) (n : ℕ) (main' ports' trail' : List ℕ) → left a (ram main' ports') trail' ≡ finished kind.Step m c (ram main ports) trail count → a ≡ added_case.Used n
+      pub goes_on : (a : Result ℕ TrailFull) (n : ℕ) (main' ports' trail' : List ℕ) → left a (ram main' ports') trail' ≡ finished kind.Step m c (ram main ports) trail count → a ≡ Ok n
           → Going main₀ ports₀ trail₀ m₀ used budget main' ports' trail' c.machine n (steps + 1)
       goes_on a n main' ports' trail' h f =
           let s = state m (ram main ports) in
@@ -389,8 +392,8 @@ module _ {main₀ ports₀ trail₀ : List ℕ} {m₀ : Machine} {used budget : 
               absurd (omega arith)
           go (phases.Go c) q z =
               let x = finished kind.Step m c (ram main ports) trail count in
-              let full : x.answered ≡ added_case.Full = was_full c.machine x.answered (sym f ∙ ap (λ (x : End). x.answer) z) in
-              leaves_full c (sym q) added_case.Full r t (same_finish (sym full) (ap (λ (x : End). x.stores) z) (ap (λ (x : End). x.trail) z)) refl
+              let full : x.answered ≡ Err trail_full = was_full c.machine x.answered (sym f ∙ ap (λ (x : End). x.answer) z) in
+              leaves_full c (sym q) (Err trail_full) r t (same_finish (sym full) (ap (λ (x : End). x.stores) z) (ap (λ (x : End). x.trail) z)) refl
 
     pub goes_on_after : (a : AfterStep) (m' : Machine) (n : ℕ) (main' ports' trail' : List ℕ) → ended a (ram main' ports') trail' ≡ once m (ram main ports) trail count → a ≡ stepped_case.Done m' n
         → Going main₀ ports₀ trail₀ m₀ used budget main' ports' trail' m' n (steps + 1)
@@ -404,11 +407,37 @@ module _ {main₀ ports₀ trail₀ : List ℕ} {m₀ : Machine} {used budget : 
             absurd (omega arith)
         go (phases.Go c) q z =
             let x = finished kind.Step m c (ram main ports) trail count in
-            let d : (x.answered ≡ added_case.Used n) × (m' ≡ c.machine) = was_done c.machine x.answered m' n (sym f ∙ ap (λ (x : End). x.answer) z) in
-            rw d.1 (goes_on c (sym q) (added_case.Used n) n main' ports' trail' (same_finish (sym d.0) (ap (λ (x : End). x.stores) z) (ap (λ (x : End). x.trail) z)) refl)
+            let d : (x.answered ≡ Ok n) × (m' ≡ c.machine) = was_done c.machine x.answered m' n (sym f ∙ ap (λ (x : End). x.answer) z) in
+            rw d.1 (goes_on c (sym q) (Ok n) n main' ports' trail' (same_finish (sym d.0) (ap (λ (x : End). x.stores) z) (ap (λ (x : End). x.trail) z)) refl)
 
 pub leaves_stopped : {main₀ ports₀ trail₀ : List ℕ} {m₀ : Machine} {used budget : ℕ} {main ports trail : List ℕ} {m : Machine} {count steps : ℕ}
     → Going main₀ ports₀ trail₀ m₀ used budget main ports trail m count steps → m.stop ≡ true
     → record { bench = bench m main ports trail count; steps = steps; ended = ending.Stopped } ≡ over_and_over budget (bench m₀ main₀ ports₀ trail₀ used)
 leaves_stopped {main₀} {ports₀} {trail₀} {m₀} {used} {budget} {main} {ports} {trail} {m} {count} {steps} k h =
     ends_stopped budget (bench m₀ main₀ ports₀ trail₀ used) steps (bench m main ports trail count) k.along h
+
+-- What a step that was not done says of the run.
+abbrev pub ending_by : Undone → Ending
+ending_by undone.Unfitted = ending.Unfitted
+ending_by undone.Full = ending.Full
+
+-- A step that was not done kept the sources that are a machine's registers.
+pub leaves_undone : {main₀ ports₀ trail₀ : List ℕ} {m₀ : Machine} {used budget : ℕ} {main ports trail : List ℕ} {count steps : ℕ} (g : List ℕ) (p : ℕ) (b stop : Bool)
+    → Going main₀ ports₀ trail₀ m₀ used budget main ports trail (held g p b stop) count steps → stop ≡ false → (steps ≡ budget → ⊥)
+    → (a : Result Next Undone) (y x : Undone) (g' : List ℕ) (r : Mem) (t : List ℕ) → Kept a g g' → ended (came a g') r t ≡ once (held g p b false) (ram main ports) trail count → a ≡ Err y → y ≡ x
+    → record { bench = record { state = state (held g' p b stop) r; trail = t; used = count }; steps = steps; ended = ending_by x } ≡ over_and_over budget (bench m₀ main₀ ports₀ trail₀ used)
+leaves_undone {main₀} {ports₀} {trail₀} {m₀} {used} {budget} {main} {ports} {trail} {count} {steps} g p b stop k live more a y x g' r t kept e h same_reason =
+    ap (λ (m : Machine). record { bench = record { state = state m r; trail = t; used = count }; steps = steps; ended = ending_by x }) same ∙ go x (h ∙ ap Err same_reason)
+  where
+    k' : Going main₀ ports₀ trail₀ m₀ used budget main ports trail (held g p b false) count steps
+    k' = rw live at k
+
+    same : held g' p b stop ≡ held g p b false
+    same =
+        let before : held g 0 false false ≡ held g' 0 false false = rw h at kept in
+        ap (λ (t : Bool). held g' p b t) live ∙ ap (λ (m : Machine). record { a = m.a; x = m.x; y = m.y; p = p; b = b; stop = false }) (sym before)
+
+    go : (x : Undone) → a ≡ Err x
+        → record { bench = record { state = state (held g p b false) r; trail = t; used = count }; steps = steps; ended = ending_by x } ≡ over_and_over budget (bench m₀ main₀ ports₀ trail₀ used)
+    go undone.Unfitted h = leaves_lacking k' refl more (came a g') r t e (ap (λ (y : Result Next Undone). came y g') h)
+    go undone.Full h = leaves_without_room k' refl more (came a g') r t e (ap (λ (y : Result Next Undone). came y g') h)

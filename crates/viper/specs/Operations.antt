@@ -1,6 +1,6 @@
 -- Document 01: the operations step, reset, force and set a word, what each does to a bench, and when each call is refused.
 -- Assumes nothing.
-use Rattle.std.specs.Prelude.{ℕ, ◌+◌, ◌-◌, ◌^◌, Bool, true, false, ◌&&◌, ◌||◌, List, eqb, leb, ltb, length}
+use Rattle.std.specs.Prelude.{ℕ, ◌+◌, ◌-◌, ◌^◌, Bool, true, false, ◌&&◌, ◌||◌, List, eqb, leb, ltb, length, Result, Ok, Err}
 use Rattle.std.proofs.Math.Option.{Option, none, some}
 use Rattle.report.specs.Section3.{State, NEXT}
 use Rattle.report.specs.Parts.{Where, with_word, written}
@@ -11,12 +11,11 @@ use Rattle.trail.specs.declared.Kind.{Kind}
 use Rattle.trail.specs.Records.{record_of, put}
 use Rattle.trail.specs.Newest.{newest_fitted}
 use Rattle.trail.specs.declared.Newest.{Newest}
-use Rattle.trail.specs.declared.Newest.TheVariants as newest
+use Rattle.trail.specs.declared.Broken.{Broken}
 use Rattle.step.specs.Phases.{lacks, step_unfitted}
-use Rattle.viper.specs.Refusals.{lowest, if_done}
+use Rattle.viper.specs.Refusals.{Answer, lowest, if_done}
 use Rattle.viper.specs.declared.Refusal.{Refusal}
 use Rattle.viper.specs.declared.Refusal.TheVariants.{PTooLarge, StoreTooLong, CountTooLarge, Stopped, Unfitted, TrailFull, NothingInUse, BrokenRecord}
-use Rattle.viper.specs.declared.Answer.{Answer}
 
 -- ---- the bench
 
@@ -101,12 +100,12 @@ takes_back (run n) = false
 takes_back back = true
 
 -- The newest record of a bench.
-abbrev pub newest_of : Bench → Newest
+abbrev pub newest_of : Bench → Result Newest Broken
 newest_of b = newest_fitted (length b.state.0.main) (length b.state.0.ports) b.trail b.used
 
-abbrev pub broken : Newest → Bool
-broken (newest.Record o n) = false
-broken newest.Broken = true
+abbrev pub broken : Result Newest Broken → Bool
+broken (Ok r) = false
+broken (Err e) = true
 
 -- The table: when each refusal applies to a call.
 abbrev pub applies : Call → Bench → Refusal → Bool

@@ -1,10 +1,9 @@
 -- Document 01, "Numbers the counter sees": the eight refusals and their numbers. The lowest that applies is answered.
 -- Assumes nothing.
-use Rattle.std.specs.Prelude.{ℕ, Bool, true, false}
+use Prim.{Unit, tt}
+use Rattle.std.specs.Prelude.{ℕ, Bool, true, false, Result, Ok, Err}
 use Rattle.viper.specs.declared.Refusal.{Refusal}
 use Rattle.viper.specs.declared.Refusal.TheVariants.{PTooLarge, StoreTooLong, CountTooLarge, Stopped, Unfitted, TrailFull, NothingInUse, BrokenRecord}
-use Rattle.viper.specs.declared.Answer.{Answer}
-use Rattle.viper.specs.declared.Answer.TheVariants.{Done, Refused}
 
 -- The paper's number of each refusal.
 abbrev pub number : Refusal → ℕ
@@ -17,13 +16,17 @@ number TrailFull = 6
 number NothingInUse = 7
 number BrokenRecord = 8
 
+-- What a call answers: done, or why it was refused.
+abbrev pub Answer : Type 0
+Answer = Result (Unit {0}) Refusal
+
 abbrev pub when : Bool → Refusal → Answer
-when true r = Refused r
-when false r = Done
+when true r = Err r
+when false r = Ok tt
 
 abbrev pub or_else : Answer → Answer → Answer
-or_else Done a = a
-or_else (Refused r) a = Refused r
+or_else (Ok u) a = a
+or_else (Err r) a = Err r
 
 -- The lowest number that applies, by a test of each.
 abbrev pub lowest : (Refusal → Bool) → Answer
@@ -39,5 +42,5 @@ lowest applies =
 
 -- The first if the call was accepted, the second if it was refused.
 abbrev pub if_done {ℓ} : {A : Type ℓ} → Answer → A → A → A
-if_done Done a b = a
-if_done (Refused r) a b = b
+if_done (Ok u) a b = a
+if_done (Err r) a b = b

@@ -1,15 +1,12 @@
 -- Document 01, "Numbers the counter sees": the rule of a run.
 -- Assumes nothing.
-use Rattle.std.specs.Prelude.{ℕ, zero, suc, Bool, true, false}
+use Rattle.std.specs.Prelude.{ℕ, zero, suc, Bool, true, false, Result, Ok, Err}
 use Rattle.machine.specs.declared.Ending.{Ending}
 use Rattle.machine.specs.declared.Ending.TheVariants as ending
+use Rattle.viper.specs.Refusals.{Answer}
 use Rattle.viper.specs.Operations.{Bench, step, operate, run, answer, done}
 use Rattle.viper.specs.declared.Refusal.{Refusal}
 use Rattle.viper.specs.declared.Refusal.TheVariants.{PTooLarge, StoreTooLong, CountTooLarge, Stopped, Unfitted, TrailFull, NothingInUse, BrokenRecord}
-use Rattle.viper.specs.declared.Answer.{Answer}
-use Rattle.viper.specs.declared.Answer.TheVariants.{Done, Refused}
-use Rattle.viper.specs.declared.RunAnswer.{RunAnswer}
-use Rattle.viper.specs.declared.RunAnswer.TheVariants as answers
 
 -- The bench that a run leaves, the steps done, and how it ended.
 pub record Ran : Type 0 where
@@ -36,8 +33,8 @@ ending_of BrokenRecord = ending.Full
 
 -- By what the step would answer, and what the rest of the run gives after it.
 abbrev pub stepped : Answer → Bench → Ran → Ran
-stepped Done b r = one_more r
-stepped (Refused r) b rest = ends b (ending_of r)
+stepped (Ok u) b r = one_more r
+stepped (Err r) b rest = ends b (ending_of r)
 
 -- If STOP is set it ends stopped.
 abbrev pub unless_stopped : Bool → Bench → Ran → Ran
@@ -51,16 +48,20 @@ over_and_over (suc n) b =
     let rest = over_and_over n (done step b) in
     unless_stopped b.state.6 b (stepped (answer (operate step) b) b rest)
 
+-- What a run answers: the steps done and how it ended, or why it was refused.
+abbrev pub RunAnswer : Type 0
+RunAnswer = Result (ℕ × Ending) Refusal
+
 pub record RunOutcome : Type 0 where
   pub answered : RunAnswer
   pub bench : Bench
 
 abbrev pub ran : Ran → RunOutcome
-ran r = record { answered = answers.Ended r.steps r.ended; bench = r.bench }
+ran r = record { answered = Ok (r.steps, r.ended); bench = r.bench }
 
 abbrev pub run_by : Answer → ℕ → Bench → RunOutcome
-run_by Done n b = ran (over_and_over n b)
-run_by (Refused r) n b = record { answered = answers.Refused r; bench = b }
+run_by (Ok u) n b = ran (over_and_over n b)
+run_by (Err r) n b = record { answered = Err r; bench = b }
 
 abbrev pub run_outcome : ℕ → Bench → RunOutcome
 run_outcome n b = run_by (answer (run n) b) n b

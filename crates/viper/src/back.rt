@@ -8,11 +8,12 @@ ghost use Rattle.viper.specs.Finding.{Finds};
 ghost use Rattle.viper.specs.Told.{bench};
 
 use crate::calls::judge;
-use crate::{Answer, Found, Marked, Refusal};
-use machine::{Machine, MainAddress, Place, PortNumber};
-use reading::ShortRecord;
+use crate::{Refusal, Restored};
+use machine::Machine;
+use reading::Marked;
 use step::finish::put_word;
-use trail::{Newest, OldValues};
+use trail::OldValues;
+use trail::places::place_of_number;
 
 // Takes the newest operation back in the stores, and hands out its old values for the registers. Of the machine only P is asked.
 pub fn restore_stores(
@@ -21,50 +22,28 @@ pub fn restore_stores(
     ports: &mut [u32],
     trail: &[u8],
     used: usize,
-) -> Found
+) -> Result<Restored, Refusal>
     ensures { Finds result (ram main.new ports.new) (bench m main.old ports.old trail.now used) }
 {
-    let first = judge(m.p, main.len(), ports.len(), trail.len(), used);
-    if let Answer::Refused(r) = first {
-        return Found::Refused(r);
-    }
+    judge(m.p, main.len(), ports.len(), trail.len(), used)?;
     if used == 0 {
-        return Found::Refused(Refusal::NothingInUse);
+        return Err(Refusal::NothingInUse);
     }
     // A short record marks no word, and at most one register.
-    let short = reading::read_short(trail, used);
-    match short {
-        ShortRecord::Kept(o, left) => {
-            return Found::Record(Marked::Nothing, o, left);
-        }
-        ShortRecord::A(o, left) => {
-            return Found::Record(Marked::A, o, left);
-        }
-        ShortRecord::X(o, left) => {
-            return Found::Record(Marked::X, o, left);
-        }
-        ShortRecord::Y(o, left) => {
-            return Found::Record(Marked::Y, o, left);
-        }
-        ShortRecord::Broken => {
-            return Found::Refused(Refusal::BrokenRecord);
-        }
-        ShortRecord::Longer => {
-            let Newest::Record(o, left) = reading::newest(trail, used, main.len(), ports.len())
-            else {
-                return Found::Refused(Refusal::BrokenRecord);
-            };
-            word_restored(o, main, ports);
-            return Found::Record(Marked::Any, o, left);
-        }
+    if let Some(short) = reading::read_short(trail, used)? {
+        return Ok(Restored {
+            marked: short.marked,
+            values: short.values,
+            left: short.left,
+        });
     }
-}
-
-// The first of two values, if it is chosen.
-fn choose(first: bool, a: u32, b: u32) -> u32
-    ensures { result ≡ cond first a b }
-{
-    if first { a } else { b }
+    let newest = reading::newest(trail, used, main.len(), ports.len())?;
+    word_restored(newest.values, main, ports);
+    Ok(Restored {
+        marked: Marked::Any,
+        values: newest.values,
+        left: newest.left,
+    })
 }
 
 // The machine with the old values of a record: what is not marked stays.
@@ -73,9 +52,9 @@ pub(crate) fn machine_restored(o: OldValues, m: Machine) -> Machine
 {
     let marks = o.marks;
     Machine {
-        a: choose(marks / 1 % 2 == 1, o.a, m.a),
-        x: choose(marks / 2 % 2 == 1, o.x, m.x),
-        y: choose(marks / 4 % 2 == 1, o.y, m.y),
+        a: if marks / 1 % 2 == 1 { o.a } else { m.a },
+        x: if marks / 2 % 2 == 1 { o.x } else { m.x },
+        y: if marks / 4 % 2 == 1 { o.y } else { m.y },
         p: o.p,
         b: marks / 16 % 2 == 1,
         stop: marks / 32 % 2 == 1,
@@ -88,15 +67,6 @@ fn word_restored(o: OldValues, main: &mut [u32], ports: &mut [u32])
     ensures { ram main.new ports.new ≡ stores_restored o (ram main.old ports.old) }
 {
     if o.marks / 8 % 2 == 1 {
-        if o.place < 0x10_0000 {
-            put_word(main, ports, Place::Main(MainAddress(o.place)), o.value);
-        } else {
-            put_word(
-                main,
-                ports,
-                Place::Port(PortNumber(o.place - 0x10_0000)),
-                o.value,
-            );
-        }
+        put_word(main, ports, place_of_number(o.place), o.value);
     }
 }

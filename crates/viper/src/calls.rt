@@ -6,56 +6,41 @@ ghost use Rattle.viper.specs.Operations.{reset as reset_op, force as force_op, s
 ghost use Rattle.viper.specs.Runs.{over_and_over, run_outcome};
 ghost use Rattle.viper.specs.TakingBack.{back_outcome};
 ghost use Rattle.viper.specs.Told.{bench, told, run_told};
-ghost use Rattle.viper.specs.declared.Answer.TheVariants.{Refused};
 ghost use Rattle.step.specs.Lawful.{Lawful};
 ghost use Rattle.step.specs.Phases.{held};
-ghost use Rattle.viper.specs.Judging.{first_refusals, ran_told, answer_by};
+ghost use Rattle.viper.specs.Judging.{first_refusals, ran_told};
 
 use crate::back::{machine_restored, restore_stores};
 use crate::views::is_fitted;
-use crate::{Answer, Found, Outcome, Refusal, RunAnswer, RunOutcome};
+use crate::{After, Ran, Refusal};
 use machine::{Ending, Machine, Place};
-use step::finish::{Stepped, changed_to, put_word, word_at};
+use step::finish::{Undone, changed_to, put_word, word_at};
 use step::phases::step_once;
-use trail::{Added, Kind, Word};
+use trail::Kind;
 
 // Refusals 1 to 3, by P, the words of both stores, the bytes of the trail and those in use.
-pub(crate) fn judge(p: u32, main: usize, ports: usize, trail: usize, used: usize) -> Answer
+pub(crate) fn judge(
+    p: u32,
+    main: usize,
+    ports: usize,
+    trail: usize,
+    used: usize,
+) -> Result<(), Refusal>
     ensures { result ≡ first_refusals p main ports trail used }
 {
     if p >= 0x10_0000 {
-        return Answer::Refused(Refusal::PTooLarge);
+        return Err(Refusal::PTooLarge);
     }
     if main > 0x10_0000 {
-        return Answer::Refused(Refusal::StoreTooLong);
+        return Err(Refusal::StoreTooLong);
     }
     if ports > 0x10_0000 {
-        return Answer::Refused(Refusal::StoreTooLong);
+        return Err(Refusal::StoreTooLong);
     }
     if used > trail {
-        return Answer::Refused(Refusal::CountTooLarge);
+        return Err(Refusal::CountTooLarge);
     }
-    Answer::Done
-}
-
-// A refused call's outcome: the machine and the count as they were.
-fn refuse(m: Machine, used: usize, refusal: Refusal) -> Outcome
-    ensures { result ≡ record { machine = m; used = used; answer = Refused refusal } }
-{
-    Outcome {
-        machine: m,
-        used,
-        answer: Answer::Refused(refusal),
-    }
-}
-
-// What a run of steps came to: the machine, the bytes in use, the steps done and how it ended.
-#[derive(Clone, Copy)]
-struct Advanced {
-    machine: Machine,
-    used: usize,
-    steps: u32,
-    ending: Ending,
+    Ok(())
 }
 
 // The machine whose A, X and Y stand first among the sources.
@@ -81,58 +66,41 @@ fn advance(
     trail: &mut [u8],
     used: usize,
     budget: u32,
-) -> Advanced
+) -> Ran
     requires { Lawful m.p (length main.old) (length ports.old) (length trail.old) used }
     ensures { ran_told result main.new ports.new trail.new ≡ over_and_over budget (bench m main.old ports.old trail.old used) }
 {
-    let table = instruction::class_table();
+    let table = instruction::ClassTable::new();
     let mut sources = [m.a, m.x, m.y, 0];
     let mut p = m.p;
     let mut b = m.b;
     let mut stop = m.stop;
     let mut count = used;
     let mut steps: u32 = 0;
-    while !stop {
-        if steps == budget {
-            return Advanced {
-                machine: machine_held(&sources, p, b, stop),
-                used: count,
-                steps,
-                ending: Ending::Budget,
-            };
+    let ending = loop {
+        if stop {
+            break Ending::Stopped;
         }
-        let stepped = step_once(&table, &mut sources, p, b, main, ports, trail, count);
-        match stepped {
-            Stepped::Done(next, test, halt, n) => {
-                p = next;
-                b = test;
-                stop = halt;
-                count = n;
+        if steps == budget {
+            break Ending::Budget;
+        }
+        match step_once(&table, &mut sources, p, b, main, ports, trail, count) {
+            Ok(next) => {
+                p = next.p;
+                b = next.b;
+                stop = next.stop;
+                count = next.used;
             }
-            Stepped::Unfitted => {
-                return Advanced {
-                    machine: machine_held(&sources, p, b, stop),
-                    used: count,
-                    steps,
-                    ending: Ending::Unfitted,
-                };
-            }
-            Stepped::Full => {
-                return Advanced {
-                    machine: machine_held(&sources, p, b, stop),
-                    used: count,
-                    steps,
-                    ending: Ending::Full,
-                };
-            }
+            Err(Undone::Unfitted) => break Ending::Unfitted,
+            Err(Undone::Full) => break Ending::Full,
         }
         steps += 1;
-    }
-    Advanced {
+    };
+    Ran {
         machine: machine_held(&sources, p, b, stop),
         used: count,
         steps,
-        ending: Ending::Stopped,
+        ending,
     }
 }
 
@@ -143,35 +111,21 @@ pub fn step(
     ports: &mut [u32],
     trail: &mut [u8],
     used: usize,
-) -> Outcome
-    ensures { told result main.new ports.new trail.new ≡ outcome step_op (bench m main.old ports.old trail.old used) }
+) -> Result<After, Refusal>
+    ensures { told result m used main.new ports.new trail.new ≡ outcome step_op (bench m main.old ports.old trail.old used) }
 {
-    let first = judge(m.p, main.len(), ports.len(), trail.len(), used);
-    if let Answer::Refused(r) = first {
-        return refuse(m, used, r);
-    }
+    judge(m.p, main.len(), ports.len(), trail.len(), used)?;
     if m.stop {
-        return refuse(m, used, Refusal::Stopped);
+        return Err(Refusal::Stopped);
     }
-    let a = advance(m, main, ports, trail, used, 1);
-    let stepped = a.machine;
-    let ending = a.ending;
-    Outcome {
-        machine: stepped,
-        used: a.used,
-        answer: step_answer(ending),
-    }
-}
-
-// The answer of a step, from how a run of one step ended.
-fn step_answer(ending: Ending) -> Answer
-    ensures { result ≡ answer_by ending }
-{
-    match ending {
-        Ending::Stopped => Answer::Done,
-        Ending::Budget => Answer::Done,
-        Ending::Unfitted => Answer::Refused(Refusal::Unfitted),
-        Ending::Full => Answer::Refused(Refusal::TrailFull),
+    let ran = advance(m, main, ports, trail, used, 1);
+    match ran.ending {
+        Ending::Stopped | Ending::Budget => Ok(After {
+            machine: ran.machine,
+            used: ran.used,
+        }),
+        Ending::Unfitted => Err(Refusal::Unfitted),
+        Ending::Full => Err(Refusal::TrailFull),
     }
 }
 
@@ -183,76 +137,44 @@ pub fn run(
     trail: &mut [u8],
     used: usize,
     budget: u32,
-) -> RunOutcome
-    ensures { run_told result main.new ports.new trail.new ≡ run_outcome budget (bench m main.old ports.old trail.old used) }
+) -> Result<Ran, Refusal>
+    ensures { run_told result m used main.new ports.new trail.new ≡ run_outcome budget (bench m main.old ports.old trail.old used) }
 {
-    let first = judge(m.p, main.len(), ports.len(), trail.len(), used);
-    if let Answer::Refused(r) = first {
-        return RunOutcome {
-            machine: m,
-            used,
-            answer: RunAnswer::Refused(r),
-        };
-    }
-    let a = advance(m, main, ports, trail, used, budget);
-    let reached = a.machine;
-    let ending = a.ending;
-    RunOutcome {
-        machine: reached,
-        used: a.used,
-        answer: RunAnswer::Ended(a.steps, ending),
-    }
+    judge(m.p, main.len(), ports.len(), trail.len(), used)?;
+    Ok(advance(m, main, ports, trail, used, budget))
 }
 
-// An operation on the machine alone: its record goes to the trail, whatever the stores hold.
-fn note(kind: Kind, m: Machine, after: Machine, trail: &mut [u8], used: usize) -> Outcome
-    ensures { (main ports : List ℕ) → told result main ports trail.new ≡ noted kind m after (ram main ports) trail.old used }
+// An operation on the machine alone: its record goes to the trail, whatever the stores hold. No store is lent, so none is too long.
+fn note(
+    kind: Kind,
+    m: Machine,
+    after: Machine,
+    trail: &mut [u8],
+    used: usize,
+) -> Result<After, Refusal>
+    ensures { (main ports : List ℕ) → told result m used main ports trail.new ≡ noted kind m after (ram main ports) trail.old used }
 {
-    if m.p >= 0x10_0000 {
-        return refuse(m, used, Refusal::PTooLarge);
-    }
-    if used > trail.len() {
-        return refuse(m, used, Refusal::CountTooLarge);
-    }
-    let o = trail::records::old_values(kind, m, after, Word::Kept);
-    let Added::Used(n) = trail::records::add(trail, used, o) else {
-        return refuse(m, used, Refusal::TrailFull);
-    };
-    Outcome {
+    judge(m.p, 0, 0, trail.len(), used)?;
+    let o = trail::records::old_values(kind, m, after, None);
+    let used = trail::records::add(trail, used, o)?;
+    Ok(After {
         machine: after,
-        used: n,
-        answer: Answer::Done,
-    }
+        used,
+    })
 }
 
 // Clears A, X, Y, P, B and STOP.
-pub fn reset(m: Machine, trail: &mut [u8], used: usize) -> Outcome
-    ensures { (main ports : List ℕ) → told result main ports trail.new ≡ outcome reset_op (bench m main ports trail.old used) }
+pub fn reset(m: Machine, trail: &mut [u8], used: usize) -> Result<After, Refusal>
+    ensures { (main ports : List ℕ) → told result m used main ports trail.new ≡ outcome reset_op (bench m main ports trail.old used) }
 {
-    let cleared = Machine {
-        a: 0,
-        x: 0,
-        y: 0,
-        p: 0,
-        b: false,
-        stop: false,
-    };
-    note(Kind::Reset, m, cleared, trail, used)
+    note(Kind::Reset, m, Machine::default(), trail, used)
 }
 
 // Sets STOP, also when it is set already.
-pub fn force(m: Machine, trail: &mut [u8], used: usize) -> Outcome
-    ensures { (main ports : List ℕ) → told result main ports trail.new ≡ outcome force_op (bench m main ports trail.old used) }
+pub fn force(m: Machine, trail: &mut [u8], used: usize) -> Result<After, Refusal>
+    ensures { (main ports : List ℕ) → told result m used main ports trail.new ≡ outcome force_op (bench m main ports trail.old used) }
 {
-    let stopped = Machine {
-        a: m.a,
-        x: m.x,
-        y: m.y,
-        p: m.p,
-        b: m.b,
-        stop: true,
-    };
-    note(Kind::Force, m, stopped, trail, used)
+    note(Kind::Force, m, Machine { stop: true, ..m }, trail, used)
 }
 
 // Puts a value at a main address or port number, on a halted machine too.
@@ -264,27 +186,18 @@ pub fn set(
     used: usize,
     place: Place,
     value: u32,
-) -> Outcome
-    ensures { told result main.new ports.new trail.new ≡ outcome (set_word place value) (bench m main.old ports.old trail.old used) }
+) -> Result<After, Refusal>
+    ensures { told result m used main.new ports.new trail.new ≡ outcome (set_word place value) (bench m main.old ports.old trail.old used) }
 {
-    let first = judge(m.p, main.len(), ports.len(), trail.len(), used);
-    if let Answer::Refused(r) = first {
-        return refuse(m, used, r);
-    }
+    judge(m.p, main.len(), ports.len(), trail.len(), used)?;
     if !is_fitted(main, ports, place, 1) {
-        return refuse(m, used, Refusal::Unfitted);
+        return Err(Refusal::Unfitted);
     }
     let old = word_at(main, ports, place);
     let o = trail::records::old_values(Kind::Set, m, m, changed_to(place, old, value));
-    let Added::Used(n) = trail::records::add(trail, used, o) else {
-        return refuse(m, used, Refusal::TrailFull);
-    };
+    let used = trail::records::add(trail, used, o)?;
     put_word(main, ports, place, value);
-    Outcome {
-        machine: m,
-        used: n,
-        answer: Answer::Done,
-    }
+    Ok(After { machine: m, used })
 }
 
 // Takes back the newest operation on the trail. No trail byte is written.
@@ -294,20 +207,12 @@ pub fn take_back(
     ports: &mut [u32],
     trail: &[u8],
     used: usize,
-) -> Outcome
-    ensures { told result main.new ports.new trail.now ≡ back_outcome (bench m main.old ports.old trail.now used) }
+) -> Result<After, Refusal>
+    ensures { told result m used main.new ports.new trail.now ≡ back_outcome (bench m main.old ports.old trail.now used) }
 {
-    let found = restore_stores(m, main, ports, trail, used);
-    match found {
-        Found::Refused(r) => {
-            return refuse(m, used, r);
-        }
-        Found::Record(_, o, left) => {
-            return Outcome {
-                machine: machine_restored(o, m),
-                used: left,
-                answer: Answer::Done,
-            };
-        }
-    }
+    let back = restore_stores(m, main, ports, trail, used)?;
+    Ok(After {
+        machine: machine_restored(back.values, m),
+        used: back.left,
+    })
 }

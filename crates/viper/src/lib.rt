@@ -3,67 +3,70 @@
 // and a refused call changes nothing.
 #![tactic(auto)]
 
+ghost use Rattle.std.specs.Prelude.{◌≡◌};
+
 pub mod back;
 pub mod calls;
 pub mod views;
 
 use machine::{Ending, Machine};
-use trail::OldValues;
+use reading::Marked;
+use trail::{Broken, OldValues, TrailFull};
 
-// Why a call was refused (document 01, "Numbers the counter sees"); `number` in specs/Refusals.antt gives the paper's number.
-#[derive(Clone, Copy)]
+// Why a call was refused, by its number (document 01, "Numbers the counter sees").
+#[derive(Clone, Copy, Debug, PartialEq, Eq)]
 pub enum Refusal {
-    PTooLarge,
-    StoreTooLong,
-    CountTooLarge,
-    Stopped,
-    Unfitted,
-    TrailFull,
-    NothingInUse,
-    BrokenRecord,
+    PTooLarge = 1,
+    StoreTooLong = 2,
+    CountTooLarge = 3,
+    Stopped = 4,
+    Unfitted = 5,
+    TrailFull = 6,
+    NothingInUse = 7,
+    BrokenRecord = 8,
 }
 
-#[derive(Clone, Copy)]
-pub enum Answer {
-    Done,
-    Refused(Refusal),
+impl From<TrailFull> for Refusal {
+    ghost use Rattle.viper.specs.declared.Refusal.TheVariants as refusal;
+
+    ghost from_gives = { λ _ e. e ≡ refusal.TrailFull };
+
+    fn from(_e: TrailFull) -> Refusal {
+        Refusal::TrailFull
+    }
 }
 
-// What a call hands back: the machine, the count of bytes in use, and its answer.
-#[derive(Clone, Copy)]
-pub struct Outcome {
+impl From<Broken> for Refusal {
+    ghost use Rattle.viper.specs.declared.Refusal.TheVariants.{BrokenRecord};
+
+    ghost from_gives = { λ _ e. e ≡ BrokenRecord };
+
+    fn from(_e: Broken) -> Refusal {
+        Refusal::BrokenRecord
+    }
+}
+
+// The machine after a call that was not refused, and the count of bytes in use.
+#[derive(Clone, Copy, Debug, PartialEq, Eq)]
+pub struct After {
     pub machine: Machine,
     pub used: usize,
-    pub answer: Answer,
 }
 
-// What a run answers: the steps done and how it ended, or why it was refused.
-#[derive(Clone, Copy)]
-pub enum RunAnswer {
-    Ended(u32, Ending),
-    Refused(Refusal),
-}
-
-#[derive(Clone, Copy)]
-pub struct RunOutcome {
+// What a run of steps came to: the machine, the bytes in use, the steps done and how it ended.
+#[derive(Clone, Copy, Debug, PartialEq, Eq)]
+pub struct Ran {
     pub machine: Machine,
     pub used: usize,
-    pub answer: RunAnswer,
+    pub steps: u32,
+    pub ending: Ending,
 }
 
-// What a record is known to mark beside the flags: nothing, or A, X or Y alone. Any is said of a record whose marks have still to be asked.
-#[derive(Clone, Copy)]
-pub enum Marked {
-    Nothing,
-    A,
-    X,
-    Y,
-    Any,
-}
-
-// What taking back finds: why it is refused; or the newest record, its old values, and the count of bytes in use once it is gone.
-#[derive(Clone, Copy)]
-pub enum Found {
-    Refused(Refusal),
-    Record(Marked, OldValues, usize),
+// What is left to take back once the stores are: the old values of the newest record, what it is known to mark, and the count of bytes in use
+// once it is gone.
+#[derive(Clone, Copy, Debug, PartialEq, Eq)]
+pub struct Restored {
+    pub marked: Marked,
+    pub values: OldValues,
+    pub left: usize,
 }

@@ -8,11 +8,10 @@ use machine::Place;
 fn within(words: usize, address: u32, n: usize) -> bool
     ensures { result ≡ stretch_fitted words address n }
 {
-    let a = address as usize;
-    if words < a {
-        return false;
+    match (address as usize).checked_add(n) {
+        Some(end) => end <= words,
+        None => false,
     }
-    n <= words - a
 }
 
 // Whether n words from a place are wholly fitted; for n = 0, whether its address is at most the store's length.
@@ -29,13 +28,11 @@ pub fn is_fitted(main: &[u32], ports: &[u32], place: Place, n: usize) -> bool
 fn part_of(store: &[u32], address: u32, n: usize) -> &[u32]
     ensures { result.now ≡ stretch store.now address n }
 {
-    let a = address as usize;
-    if within(store.len(), address, n) {
-        let e = a + n;
-        return &store[a..e];
+    let start = address as usize;
+    match start.checked_add(n) {
+        Some(end) => store.get(start..end).unwrap_or(&[]),
+        None => &[],
     }
-    let z = store.len();
-    &store[z..z]
 }
 
 // The n words from a place, as a part of the store they stand in; the empty stretch if they are not wholly fitted.

@@ -1,16 +1,16 @@
 -- Refusals 1 to 3, or the rule of a run.
-use lib.ListN.{length}
 use Rattle.viper.specs.Judging.{ran_told}
-use Rattle.viper.proofs.Exits.{passed, run_refused, run_ended}
+use Rattle.std.proofs.lemmas.Result.{err_from_is_err_and}
+use Rattle.viper.proofs.Exits.{run_refused, run_ended}
 use Rattle.viper.proofs.calls.run.Goals as goal
 
-pub returns-in-Refused : goal.returns-in-Refused
-returns-in-Refused c = run_refused c.args.m c.args.main.now c.args.ports.now c.args.trail.now c.args.used c.args.budget c.judge-first.result c.in-Refused.r c.judge-first.ensures c.in-Refused.is
-
-pub advance-a-requires : goal.advance-a-requires
-advance-a-requires c = passed c.args.m.p (length c.args.main.now) (length c.args.ports.now) (length c.args.trail.now) c.args.used c.judge-first.result c.judge-first.ensures c.in_default.is
+pub returns-in_err-judge : goal.returns-in_err-judge
+returns-in_err-judge c =
+    let a = c.args in
+    let p = err_from_is_err_and c.from_residual.result c.from_residual.ensures.1 in rw (p.1, p.2) (run_refused a.m a.main.now a.ports.now a.trail.now a.used a.budget c.judge.result _ c.judge.ensures c.in_err-judge.was)
 
 pub returns : goal.returns
 returns c =
-    let a = c.advance-a in
-    run_ended c.args.m c.args.main.now c.args.ports.now c.args.trail.now c.args.used c.args.budget c.judge-first.result (ran_told a.result a.new.main a.new.ports a.new.trail) c.judge-first.ensures c.in_default.is a.ensures
+    let a = c.args in
+    let o = c.advance in
+    run_ended a.m a.main.now a.ports.now a.trail.now a.used a.budget c.judge.result (ran_told o.result o.new.main o.new.ports o.new.trail) c.judge.ensures c.in_ok-judge.was o.ensures

@@ -1,27 +1,46 @@
 -- Refusals 1 to 4, or a run of one step.
+use Prim.{tt}
+use mathlib.Core.Path.{◌≡◌, refl, ap}
 use lib.ListN.{length}
-use Rattle.viper.specs.Judging.{ran_told}
-use mathlib.Core.Path.{refl}
+use Rattle.std.specs.Prelude.{Ok, ◌⊎◌}
+use Rattle.std.proofs.Common.{inl, inr}
+use Rattle.machine.specs.declared.Ending.{Ending}
+use Rattle.machine.specs.declared.Ending.TheVariants as ending
+use Rattle.viper.specs.Judging.{ran_told, answer_by}
 use Rattle.viper.specs.Operations as operations
-use Rattle.viper.proofs.Exits.{passed, refused_first, refused_stopped, stepped_once}
+use Rattle.std.proofs.lemmas.Result.{err_from_is_err_and}
+use Rattle.viper.proofs.Exits.{passed, refused_first, refused_stopped, stepped_once, step_refused}
 use Rattle.viper.proofs.calls.step.Goals as goal
 
-pub returns-in-Refused : goal.returns-in-Refused
-returns-in-Refused c =
-    rw c.refuse.ensures
-    (refused_first c.args.m c.args.main.now c.args.ports.now c.args.trail.now c.args.used operations.step c.judge-first.result c.in-Refused.r refl c.judge-first.ensures c.in-Refused.is)
+pub returns-in_err-judge : goal.returns-in_err-judge
+returns-in_err-judge c =
+    let a = c.args in
+    let p = err_from_is_err_and c.from_residual.result c.from_residual.ensures.1 in rw (p.1, p.2) (refused_first a.m a.main.now a.ports.now a.trail.now a.used operations.step c.judge.result _ refl c.judge.ensures c.in_err-judge.was)
 
 pub returns-then-m : goal.returns-then-m
 returns-then-m c =
-    rw c.refuse-then-m.ensures
-    (refused_stopped c.args.m c.args.main.now c.args.ports.now c.args.trail.now c.args.used c.judge-first.result c.judge-first.ensures c.in_default.is c.if-m.true)
+    let a = c.args in
+    refused_stopped a.m a.main.now a.ports.now a.trail.now a.used c.judge.result c.judge.ensures c.in_ok-judge.was c.if-m.true
 
-pub advance-a-requires : goal.advance-a-requires
-advance-a-requires c = passed c.args.m.p (length c.args.main.now) (length c.args.ports.now) (length c.args.trail.now) c.args.used c.judge-first.result c.judge-first.ensures c.in_default.is
+answered_by : (e : Ending) → (e ≡ ending.Stopped) ⊎ (e ≡ ending.Budget) → answer_by e ≡ Ok tt
+answered_by e h = elim h [ inl k ↦ ap answer_by k | inr k ↦ ap answer_by k ]
 
-pub returns : goal.returns
-returns c =
-    let a = c.advance-a in
-    rw c.step_answer.ensures
-    (stepped_once c.args.m c.args.main.now c.args.ports.now c.args.trail.now c.args.used (passed c.args.m.p (length c.args.main.now) (length c.args.ports.now) (length c.args.trail.now) c.args.used c.judge-first.result c.judge-first.ensures c.in_default.is) c.if-m.false
-    (ran_told a.result a.new.main a.new.ports a.new.trail) a.ensures)
+pub returns-in-Stopped : goal.returns-in-Stopped
+returns-in-Stopped c =
+    let a = c.args in
+    let o = c.advance-ran in
+    rw (answered_by o.result.ending c.in-Stopped.is) at
+    (stepped_once a.m a.main.now a.ports.now a.trail.now a.used (passed a.m.p (length a.main.now) (length a.ports.now) (length a.trail.now) a.used c.judge.result c.judge.ensures c.in_ok-judge.was) c.if-m.false
+    (ran_told o.result o.new.main o.new.ports o.new.trail) o.ensures)
+
+pub returns-in-Unfitted : goal.returns-in-Unfitted
+returns-in-Unfitted c =
+    let a = c.args in
+    let o = c.advance-ran in
+    step_refused a.m a.main.now a.ports.now a.trail.now a.used (passed a.m.p (length a.main.now) (length a.ports.now) (length a.trail.now) a.used c.judge.result c.judge.ensures c.in_ok-judge.was) c.if-m.false (ran_told o.result o.new.main o.new.ports o.new.trail) _ _ _ o.ensures refl refl (ap answer_by c.in-Unfitted.is)
+
+pub returns-in-Full : goal.returns-in-Full
+returns-in-Full c =
+    let a = c.args in
+    let o = c.advance-ran in
+    step_refused a.m a.main.now a.ports.now a.trail.now a.used (passed a.m.p (length a.main.now) (length a.ports.now) (length a.trail.now) a.used c.judge.result c.judge.ensures c.in_ok-judge.was) c.if-m.false (ran_told o.result o.new.main o.new.ports o.new.trail) _ _ _ o.ensures refl refl (ap answer_by c.in-Full.is)
