@@ -139,6 +139,10 @@ line_bounds address w =
     let l = line_length address w in
     (omega arith, omega arith)
 
+-- The address, the fields and the line feed.
+pub line_within : (w : ℕ) → length (spaced (fields w)) + 6 ≤ 24
+line_within w = omega (arith, line_length 0 w, (line_bounds 0 w).1)
+
 lines_at_most : (address : ℕ) (words : List ℕ) → length (lines address words) ≤ most_bytes (length words)
 unfolding lines
 lines_at_most address [] = omega arith

@@ -37,3 +37,8 @@ first_lines main i =
     = ap listing (sym (take-append-drop i main)) ∙ lines_append 0 (take i main) (drop i main)
     in
     omega (arith, ap length e, length-append (listing (take i main)) rest)
+
+-- The first lines and the next are within the listing.
+pub next_within : (main : List ℕ) (i : ℕ) → i < length main
+    → length (listing (take i main)) + length (line i (get_or main i 0)) ≤ length (listing main)
+next_within main i h = omega (arith, next_length main i h, first_lines main (i + 1))

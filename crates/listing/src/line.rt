@@ -82,6 +82,7 @@ fn push_fields(line: &mut Text<24>, form: Form, w: u32)
 }
 
 // The line of a word at an address, whose last five digits it tells.
+#[tactic(auto, using(text::proofs::Digits::hex_length, crate::proofs::Lengths::line_within), unfolding(language::specs::Line::line))]
 pub fn line_of(table: &ClassTable, address: usize, w: u32) -> Text<24>
     ensures { result ≡ line address w }
 {

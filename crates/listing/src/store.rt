@@ -25,6 +25,7 @@ pub fn line_of_word(address: usize, w: u32) -> Text<24>
     line_of(&ClassTable::new(), address, w)
 }
 
+#[tactic(auto, using(crate::proofs::Lengths::listing_at_most, crate::proofs::Lines::next_within, crate::proofs::Lines::next_length), unfolding(crate::specs::Listing::lines))]
 fn listing_length(table: &ClassTable, main: &[u32]) -> usize
     requires { length main.now ≤ 2 ^ 20 }
     ensures { result ≡ length (listing main.now) }
@@ -36,6 +37,7 @@ fn listing_length(table: &ClassTable, main: &[u32]) -> usize
     total
 }
 
+#[tactic(auto, using(text::proofs::Placing::put_nothing, crate::proofs::Lines::next_within), unfolding(crate::specs::Listing::lines))]
 fn put_listing(table: &ClassTable, main: &[u32], out: &mut [u8])
     requires { length (listing main.now) ≤ length out.old }
     ensures { Placed 0 (listing main.now) out.old (length (listing main.now)) out.new }
@@ -47,6 +49,7 @@ fn put_listing(table: &ClassTable, main: &[u32], out: &mut [u8])
 }
 
 // Lists main from address 0 into the output, and answers how many bytes the listing has. A refused call writes no byte, and bytes past the listing stay.
+#[tactic(auto, using(crate::proofs::Answers::store_too_long, crate::proofs::Answers::output_too_short))]
 pub fn list(main: &[u32], out: &mut [u8]) -> Result<usize, ListRefusal>
     ensures { Lists main.now out.old result out.new }
 {
