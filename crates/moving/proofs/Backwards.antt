@@ -6,51 +6,21 @@ use mathlib.Core.Bool.{Bool, true, false, not}
 use mathlib.Core.Option.{some}
 use mathlib.Core.List.{List, [], ◌∷◌, ◌++◌, append_assoc}
 use native.Mathlib.Omega.{arith}
-use lib.ListN.{length, get_or, take, drop, set, length-append, length-set, length-drop}
-use lib.Seq.{slice, paste, paste-zero, length-paste, take-add, drop_at, drop-drop, drop-cons, drop-set-lt, get_or-drop, get_or-set_same, length-slice, length-take-le}
+use lib.ListN.{length, get_or, take, drop, set, length-append, length-set, length-drop, length-take}
+use lib.Seq.{slice, take-add, drop_at, drop-drop, drop-cons, drop-set-lt, get_or-set_same, length-slice, length-take-le}
 use borrow.Author.Tests.{le-ltb}
+use borrow.Rule.Slice.PartMut.{put_mid}
 use Rattle.report.specs.AnnexA.{BV}
 use Rattle.trail.specs.Numbers.{groups}
 use Rattle.trail.specs.declared.OldValues.{OldValues}
-use Rattle.trail.specs.Records.{from_marks, body_in, record_in, GoodIn}
+use Rattle.trail.specs.Records.{kind_number, from_marks, body_in, record_in, GoodIn}
 use Rattle.trail.proofs.RecordsReadBack.{read_only_in}
 use Rattle.trail.proofs.NewestReadsBack.{newest_found}
 use Rattle.trail.proofs.NumbersReadBack.{groups_one}
-use Rattle.trail.proofs.Adding.{Copying, goes_on}
-use Rattle.moving.specs.declared.Moved.TheVariants.{Bytes}
+use Rattle.std.specs.Prelude.{Ok}
 use Rattle.moving.specs.Rows.{row, records_of}
 use Rattle.moving.specs.Moving.{moved_length, moved_record, PutBefore, Moves, move}
 use Rattle.moving.proofs.Division.{none_of, parted}
-
--- ---- bytes copied
-
--- The bytes from a place on, so many.
-taken : (s : List ℕ) (from n : ℕ) → from + n ≤ length s → take n (drop from s) ≡ slice from (from + n) s
-taken s from n h =
-    sym (ap (drop from) (take-add from n s) ∙ drop_at (take from s) (take n (drop from s)) from (length-take-le from s (omega arith)))
-
-pub copy_starts : (out : List ℕ) (at : ℕ) (s : List ℕ) (from n : ℕ) → from + n ≤ length s → at + n ≤ length out → Copying out at (drop from s) n out 0
-copy_starts out at s from n h g =
-    record {
-      some = omega arith;
-      held = omega (arith, length-drop from s);
-      room = g;
-      size = refl;
-      whole = paste-zero out at (drop from s);
-    }
-
-pub copy_goes_on : {old : List ℕ} {at : ℕ} (s : List ℕ) (from : ℕ) {n : ℕ} {new : List ℕ} {i : ℕ} → Copying old at (drop from s) n new i → i < n
-    → Copying old at (drop from s) n (set new (at + i) (get_or s (from + i) 0)) (i + 1)
-copy_goes_on {old} {at} s from {n} {new} {i} g h =
-    subst (λ (b : ℕ). Copying old at (drop from s) n (set new (at + i) b) (i + 1)) (get_or-drop from s i 0) (goes_on g h)
-
-pub copy_ends : {old : List ℕ} {at : ℕ} {b : List ℕ} {n : ℕ} {new : List ℕ} {i : ℕ} → Copying old at b n new i → n ≤ i → new ≡ paste old at b n
-copy_ends {old} {at} {b} {n} {new} {i} g h =
-    let j : i ≡ n = omega (arith, g.some) in
-    g.whole ∙ ap (paste old at b) j
-
-pub copy_length : (b : List ℕ) (at : ℕ) (s : List ℕ) (from n : ℕ) → from + n ≤ length s → at + n ≤ length b → {o : List ℕ} → o ≡ paste b at (drop from s) n → length o ≡ length b
-copy_length b at s from n h g {o} p = ap length p ∙ length-paste b at (drop from s) n g (omega (arith, length-drop from s))
 
 -- ---- bytes put right before others
 
@@ -73,17 +43,22 @@ before_one b to at x e h =
       size = length-set b at x;
     }
 
-pub before_copy : (b : List ℕ) (to at : ℕ) (s : List ℕ) (from n : ℕ) → at + n ≡ to → to ≤ length b → from + n ≤ length s → PutBefore to (slice from (from + n) s) b (paste b at (drop from s) n) at
-before_copy b to at s from n e h g =
-    let p = taken s from n g in
+-- Bytes written over a part of the output.
+before_part : (b : List ℕ) (to at : ℕ) (t : List ℕ) → at + length t ≡ to → to ≤ length b → PutBefore to t b (put_mid at (to - at) b t) at
+before_part b to at t e h =
+    let k : at + (to - at) ≡ to = omega arith in
     record {
-      place = omega (arith, length-slice from (from + n) s g);
+      place = e;
       bytes =
-          ap (drop at) (append_assoc (take at b) (take n (drop from s)) (drop (at + n) b))
-          ∙ drop_at (take at b) (take n (drop from s) ++ drop (at + n) b) at (length-take-le at b (omega arith))
-          ∙ rw (p, e);
-      size = length-paste b at (drop from s) n (omega arith) (omega (arith, length-drop from s));
+          drop_at (take at b) (t ++ drop (to - at) (drop at b)) at (length-take-le at b (omega arith))
+          ∙ ap (λ (r : List ℕ). t ++ r) (drop-drop (to - at) at b ∙ ap (λ (n : ℕ). drop n b) k);
+      size = simp (length-append, length-take, length-drop) (omega arith);
     }
+
+-- The bytes from a place on, so many.
+taken : (s : List ℕ) (from n : ℕ) → from + n ≤ length s → take n (drop from s) ≡ slice from (from + n) s
+taken s from n h =
+    sym (ap (drop from) (take-add from n s) ∙ drop_at (take from s) (take n (drop from s)) from (length-take-le from s (omega arith)))
 
 -- ---- a record in the other form
 
@@ -92,48 +67,77 @@ pub moved_is : (new : Bool) (s : List ℕ) (start L : ℕ) (e : OldValues) → s
     → moved_record new s start L ≡ record_in new e
 unfolding record_in
 moved_is true s start L e h p g =
-    let k : groups e.kind ≡ 0 ∷ [] = groups_one e.kind (omega (arith, g.kind)) ∙ ap (λ (n : ℕ). n ∷ []) g.kind in
+    let k : groups (kind_number e.kind) ≡ 0 ∷ [] = groups_one (kind_number e.kind) (omega (arith, g.kind)) ∙ ap (λ (n : ℕ). n ∷ []) g.kind in
     let l : L ≡ length (from_marks e) = omega (arith, length-slice start (start + L) s h, ap length p) in
     rw (p, k, l) (ap (λ (n : ℕ). 0 ∷ (from_marks e ++ (n ∷ []))) (omega arith))
 moved_is false s start L e h p g =
-    let k : groups e.kind ≡ e.kind ∷ [] = groups_one e.kind (omega (arith, g.kind)) in
-    let q : slice start (start + L) s ≡ e.kind ∷ from_marks e = p ∙ ap (λ (r : List ℕ). r ++ from_marks e) k in
+    let k : groups (kind_number e.kind) ≡ kind_number e.kind ∷ [] = groups_one (kind_number e.kind) (omega (arith, g.kind)) in
+    let q : slice start (start + L) s ≡ kind_number e.kind ∷ from_marks e = p ∙ ap (λ (r : List ℕ). r ++ from_marks e) k in
     let l : L - 1 ≡ length (from_marks e) = omega (arith, length-slice start (start + L) s h, ap length q) in
     let t : slice (start + 1) (start + L) s ≡ from_marks e = sym (drop-drop 1 start (take (start + L) s)) ∙ ap (drop 1) q in
     rw (t, l)
 
--- ---- the functions that put one record
+-- ---- the function that puts one record
 
-pub puts_new : (out s : List ℕ) (start l to : ℕ) → start + l ≤ length s → l + 2 ≤ to → to ≤ length out → {o : List ℕ} → o ≡ paste (set out (to - 1) (l + 1)) (to - 1 - l) (drop start s) l
-    → PutBefore to (moved_record true s start l) out (set o (to - 2 - l) 0) (to - 2 - l)
-puts_new out s start l to h g f {o} p =
-    let first = before_one out to (to - 1) (l + 1) (omega arith) f in
-    let long : to - 1 ≤ length (set out (to - 1) (l + 1)) = omega (arith, first.size) in
-    let copied : PutBefore (to - 1) (slice start (start + l) s) (set out (to - 1) (l + 1)) o (to - 1 - l) =
-    rw p (before_copy (set out (to - 1) (l + 1)) (to - 1) (to - 1 - l) s start l (omega arith) long h)
-    in
-    let last = before_one o (to - 1 - l) (to - 2 - l) 0 (omega arith) (omega (arith, copied.size)) in
-    before_then (before_then first copied) last
+-- The bytes of a record from its start on, but for the first ones, `skipped`.
+abbrev kept : List ℕ → ℕ → ℕ → ℕ → List ℕ
+kept s start l skipped = take (start + l - (start + skipped)) (drop (start + skipped) s)
 
-pub puts_old : (out s : List ℕ) (start l to : ℕ) → start + l ≤ length s → 1 ≤ l → l ≤ to → to ≤ length out → {o : List ℕ} → o ≡ paste (set out (to - 1) (l - 1)) (to - l) (drop (start + 1) s) (l - 1)
-    → PutBefore to (moved_record false s start l) out o (to - l)
-puts_old out s start l to h one g f {o} p =
-    let first = before_one out to (to - 1) (l - 1) (omega arith) f in
-    let long : to - 1 ≤ length (set out (to - 1) (l - 1)) = omega (arith, first.size) in
-    let end : start + 1 + (l - 1) ≡ start + l = omega arith in
-    let copied : PutBefore (to - 1) (slice (start + 1) (start + 1 + (l - 1)) s) (set out (to - 1) (l - 1)) o (to - l) =
-    rw p (before_copy (set out (to - 1) (l - 1)) (to - 1) (to - l) s (start + 1) (l - 1) (omega arith) long (omega arith))
-    in
-    before_then first (rw end at copied)
+kept_is : (s : List ℕ) (start l skipped : ℕ) → start + l ≤ length s → skipped ≤ l → kept s start l skipped ≡ slice (start + skipped) (start + l) s
+kept_is s start l skipped h g =
+    let n : start + l - (start + skipped) ≡ l - skipped = omega arith in
+    let end : start + skipped + (l - skipped) ≡ start + l = omega arith in
+    rw n (taken s (start + skipped) (l - skipped) (omega arith) ∙ ap (λ (e : ℕ). slice (start + skipped) e s) end)
 
--- What they are asked for, by the form.
-pub asked_new : (new : Bool) (l to : ℕ) → new ≡ true → l ≤ 27 + BV (not new) → moved_length new (l + 1) 1 ≤ to → (l ≤ 27) × (l + 2 ≤ to)
-asked_new true l to e h g = (omega arith, omega arith)
-asked_new false l to e h g = let z : ◌≡◌ {A = ℕ} 0 1 = cc in absurd (omega arith)
+-- What is kept of it and the count L stand right before the output's place `to`.
+kept_put : (out : List ℕ) (to at L : ℕ) (t : List ℕ) → at + length t + 1 ≡ to → to ≤ length out → PutBefore to (t ++ (L ∷ [])) out (put_mid at (to - 1 - at) (set out (to - 1) L) t) at
+kept_put out to at L t e h =
+    let first = before_one out to (to - 1) L (omega arith) h in
+    before_then first (before_part (set out (to - 1) L) (to - 1) at t (omega arith) (omega (arith, first.size)))
 
-pub asked_old : (new : Bool) (l to : ℕ) → new ≡ false → l ≤ 27 + BV (not new) → moved_length new (l + 1) 1 ≤ to → (l ≤ 28) × (l ≤ to)
-asked_old true l to e h g = let z : ◌≡◌ {A = ℕ} 0 1 = cc in absurd (omega arith)
-asked_old false l to e h g = (omega arith, omega arith)
+-- The count of what is put before L, and where it begins; the output once it is put.
+abbrev L : List ℕ → ℕ → ℕ → ℕ → ℕ → ℕ
+L s start l lead skipped = length (kept s start l skipped) + lead
+
+abbrev begin : List ℕ → ℕ → ℕ → ℕ → ℕ → ℕ → ℕ
+begin s start l to lead skipped = to - 1 - L s start l lead skipped
+
+abbrev copied : List ℕ → List ℕ → ℕ → ℕ → ℕ → ℕ → ℕ → List ℕ → List ℕ
+copied out s start l to lead skipped t =
+    let at = begin s start l to lead skipped + lead in
+    put_mid at (to - 1 - at) (set out (to - 1) (L s start l lead skipped)) t
+
+module _ (out s : List ℕ) (start l to lead skipped : ℕ) (t : List ℕ) (inside : start + l ≤ length s) (room : to ≤ length out) where
+  pub puts_new : (new : Bool) → new ≡ true → lead ≡ BV new → skipped ≡ BV (not new) → 2 + BV (not new) ≤ l → moved_length new (l + 1) 1 ≤ to → t ≡ kept s start l skipped
+      → PutBefore to (moved_record new s start l) out (set (copied out s start l to lead skipped t) (begin s start l to lead skipped) 0) (begin s start l to lead skipped)
+  puts_new true i a b low h e =
+      let at = begin s start l to lead skipped in
+      let n = L s start l lead skipped in
+      let o = copied out s start l to lead skipped t in
+      let k = kept_is s start l skipped inside (omega arith) in
+      let bytes : t ≡ slice start (start + l) s = e ∙ k ∙ ap (λ (n : ℕ). slice n (start + l) s) (omega arith) in
+      let long : length (kept s start l skipped) ≡ l = omega (arith, ap length k, length-slice (start + skipped) (start + l) s inside) in
+      let p = kept_put out to (at + lead) n t (omega (arith, ap length e, long)) room in
+      let count : n ≡ l + 1 = omega (arith, long) in
+      let last = before_one o (at + lead) at 0 (omega arith) (omega (arith, p.size, long)) in
+      subst (λ (r : List ℕ). PutBefore to r out (set o at 0) at) (ap (λ (r : List ℕ). 0 ∷ (r ++ (n ∷ []))) bytes ∙ ap (λ (m : ℕ). 0 ∷ (slice start (start + l) s ++ (m ∷ []))) count) (before_then p last)
+  puts_new false i a b low h e = absurd (cc)
+
+  pub puts_old : (new : Bool) → new ≡ false → lead ≡ BV new → skipped ≡ BV (not new) → 2 + BV (not new) ≤ l → moved_length new (l + 1) 1 ≤ to → t ≡ kept s start l skipped
+      → PutBefore to (moved_record new s start l) out (copied out s start l to lead skipped t) (begin s start l to lead skipped)
+  puts_old true i a b low h e = absurd (cc)
+  puts_old false i a b low h e =
+      let at = begin s start l to lead skipped in
+      let n = L s start l lead skipped in
+      let o = copied out s start l to lead skipped t in
+      let k = kept_is s start l skipped inside (omega arith) in
+      let bytes : t ≡ slice (start + 1) (start + l) s = e ∙ k ∙ ap (λ (m : ℕ). slice (start + m) (start + l) s) b in
+      let long : length (kept s start l skipped) ≡ l - 1 = omega (arith, ap length k, length-slice (start + skipped) (start + l) s inside) in
+      let p = kept_put out to (at + lead) n t (omega (arith, ap length e, long)) room in
+      let count : n ≡ l - 1 = omega (arith, long) in
+      let place : at + lead ≡ at = omega arith in
+      subst (λ (m : ℕ). PutBefore to (moved_record false s start l) out o m) place
+      (subst (λ (r : List ℕ). PutBefore to r out o (at + lead)) (ap (λ (r : List ℕ). r ++ (n ∷ [])) bytes ∙ ap (λ (m : ℕ). slice (start + 1) (start + l) s ++ (m ∷ [])) count) p)
 
 -- ---- the loop over all records
 
@@ -240,7 +244,7 @@ module _ {new : Bool} {s out₀ : List ℕ} {total : ℕ} {out : List ℕ} {used
             ∙ g.whole;
       }
 
-  pub ends : used ≤ 0 → (Bytes total, out) ≡ move new s out₀
+  pub ends : used ≤ 0 → move new s out₀ ≡ (Ok total, out)
   unfolding move
   ends h =
       let z : used ≡ 0 = omega arith in

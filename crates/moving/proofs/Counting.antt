@@ -11,16 +11,14 @@ use lib.Seq.{slice}
 use Rattle.report.specs.AnnexA.{BV}
 use Rattle.trail.specs.declared.OldValues.{OldValues}
 use Rattle.trail.specs.declared.Newest.{Newest}
-use Rattle.trail.specs.declared.Newest.TheVariants as newest
+use Rattle.std.specs.Prelude.{Result, Ok, Err}
+use Rattle.trail.specs.declared.Broken.{Broken}
 use Rattle.trail.specs.Records.{record_in}
-use Rattle.trail.specs.Newest.{read_in_form, leaving, newest_in}
+use Rattle.trail.specs.Newest.{read_in_form, leaving, newest_in, broken_record, read_back}
 use Rattle.trail.proofs.NewestReadsBack.{by_L}
-use Rattle.moving.specs.declared.judging.Start.{Start}
-use Rattle.moving.specs.declared.judging.Start.TheVariants as start
-use Rattle.moving.specs.declared.judging.Count.TheVariants as count
 use Rattle.moving.specs.Rows.{row, GoodRow, newer, records_of, records}
 use Rattle.moving.specs.Moving.{start_of, count_of}
-use Rattle.moving.proofs.Entries.{kind_small, entry_length}
+use Rattle.moving.proofs.Entries.{entry_length}
 use Rattle.moving.proofs.Division.{shorter, none_of, broken_of, ends_of, only}
 
 -- ---- the ways out after the tests on L; r is what the code found of the bytes before it
@@ -29,7 +27,7 @@ module _ (kinds : Bool) (s : List ℕ) (used L : ℕ) (is : get_or s (used - 1) 
   after_L : newest_in kinds (2 ^ 21) s used ≡ leaving (used - 1 - L) (read_in_form kinds (2 ^ 21) (slice (used - 1 - L) (used - 1) s))
   after_L = by_L kinds (2 ^ 21) s used (omega arith) (omega arith) (omega arith) ∙ rw is
 
-  pub by_record : {r : Newest} → r ≡ leaving (used - 1 - L) (read_in_form kinds (2 ^ 21) (slice (used - 1 - L) (used - 1) s)) → {q : Newest} → r ≡ q → start_of q ≡ start_of (newest_in kinds (2 ^ 21) s used)
+  pub by_record : {r : Result Newest Broken} → r ≡ leaving (used - 1 - L) (read_in_form kinds (2 ^ 21) (slice (used - 1 - L) (used - 1) s)) → {q : Result Newest Broken} → r ≡ q → start_of q ≡ start_of (newest_in kinds (2 ^ 21) s used)
   by_record p e = ap start_of (sym e ∙ p ∙ sym after_L)
 
 -- ---- counting
@@ -47,13 +45,13 @@ after_one es e none = refl
 after_one es e (some fs) = ap some (sym (append_assoc es (e ∷ []) fs))
 
 -- What the code found of the newest record.
-begins : (r : Newest) (n : ℕ) → start.At n ≡ start_of r → (G : Type 0) → ((e : OldValues) → r ≡ newest.Record e n → G) → G
-begins newest.Broken n p G then = let z : ◌≡◌ {A = ℕ} 0 1 = cc in absurd (omega arith)
-begins (newest.Record e m) n p G then = let q : m ≡ n = cc in then e (ap (newest.Record e) q)
+begins : (r : Result Newest Broken) (n : ℕ) → start_of r ≡ Ok n → (G : Type 0) → ((e : OldValues) → r ≡ read_back e n → G) → G
+begins (Err x) n p G then = absurd (cc)
+begins (Ok m) n p G then = let q : m.left ≡ n = cc in then m.values (ap (read_back m.values) q)
 
-lacks : (r : Newest) → start.Broken ≡ start_of r → r ≡ newest.Broken
-lacks newest.Broken p = refl
-lacks (newest.Record e m) p = let z : ◌≡◌ {A = ℕ} 0 1 = cc in absurd (omega arith)
+lacks : (r : Result Newest Broken) (e : Broken) → start_of r ≡ Err e → r ≡ broken_record
+lacks (Err x) e p = refl
+lacks (Ok m) e p = absurd (cc)
 
 -- The n newest records are found, and those of the first `used` bytes are still to be.
 pub record Counting (kinds : Bool) (s : List ℕ) (used n : ℕ) : Type 0 where
@@ -66,11 +64,11 @@ pub starts : (kinds : Bool) (s : List ℕ) → Counting kinds s (length s) 0
 starts kinds s = record { found = []; whole = sym (after_none (records kinds s)); count = refl; few = omega arith }
 
 module _ {kinds : Bool} {s : List ℕ} {used n : ℕ} (g : Counting kinds s used n) where
-  module _ (h : 0 < used) {r : Start} (p : r ≡ start_of (newest_in kinds (2 ^ 21) s used)) where
+  module _ (h : 0 < used) {r : Result ℕ Broken} (p : r ≡ start_of (newest_in kinds (2 ^ 21) s used)) where
     -- The newest begins after m bytes.
-    pub goes_on : {m : ℕ} → r ≡ start.At m → Counting kinds s m (n + 1) × (m < used)
+    pub goes_on : {m : ℕ} → r ≡ Ok m → Counting kinds s m (n + 1) × (m < used)
     goes_on {m} q =
-        begins (newest_in kinds (2 ^ 21) s used) m (sym q ∙ p) (Counting kinds s m (n + 1) × (m < used)) (λ e l.
+        begins (newest_in kinds (2 ^ 21) s used) m (sym p ∙ q) (Counting kinds s m (n + 1) × (m < used)) (λ e l.
         let less = shorter kinds s used e m h l in (
           record {
             found = g.found ++ (e ∷ []);
@@ -81,10 +79,10 @@ module _ {kinds : Bool} {s : List ℕ} {used n : ℕ} (g : Counting kinds s used
           less,
         ))
 
-    pub stops : r ≡ start.Broken → count.Broken ≡ count_of (records kinds s)
-    stops q = rw (g.whole, broken_of kinds s used h (lacks (newest_in kinds (2 ^ 21) s used) (sym q ∙ p)))
+    pub stops : {e : Broken} → r ≡ Err e → count_of (records kinds s) ≡ Err (record {})
+    stops {e} q = rw (g.whole, broken_of kinds s used h (lacks (newest_in kinds (2 ^ 21) s used) e (sym p ∙ q)))
 
-  pub ends : used ≤ 0 → count.Records n ≡ count_of (records kinds s)
+  pub ends : used ≤ 0 → count_of (records kinds s) ≡ Ok n
   ends h =
       let z : used ≡ 0 = omega arith in
       rw (g.whole, z, none_of kinds s, append-nil, g.count)
@@ -94,7 +92,7 @@ module _ {kinds : Bool} {s : List ℕ} {used n : ℕ} (g : Counting kinds s used
 pub row_few : (kinds : Bool) (es : List OldValues) → GoodRow kinds es → length es ≤ length (row kinds es)
 row_few kinds [] g = omega arith
 row_few kinds (e ∷ es) g =
-    omega (arith, row_few kinds es g.1, length-append (row kinds es) (record_in kinds e), entry_length kinds e (kind_small kinds e.kind g.0.kind))
+    omega (arith, row_few kinds es g.1, length-append (row kinds es) (record_in kinds e), entry_length kinds e)
 
 pub records_few : (kinds : Bool) (s : List ℕ) (es : List OldValues) → records kinds s ≡ some es → length es ≤ length s
 records_few kinds s es p =
@@ -102,10 +100,10 @@ records_few kinds s es p =
     omega (arith, row_few kinds es w.1, ap length w.0)
 
 -- What the code counted.
-pub counted : (r : Option (List OldValues)) (n : ℕ) → count.Records n ≡ count_of r → (G : Type 0) → ((es : List OldValues) → r ≡ some es → n ≡ length es → G) → G
-counted none n p G then = let z : ◌≡◌ {A = ℕ} 0 1 = cc in absurd (omega arith)
+pub counted : (r : Option (List OldValues)) (n : ℕ) → count_of r ≡ Ok n → (G : Type 0) → ((es : List OldValues) → r ≡ some es → n ≡ length es → G) → G
+counted none n p G then = absurd (cc)
 counted (some es) n p G then = then es refl (cc)
 
-pub uncounted : (r : Option (List OldValues)) → count.Broken ≡ count_of r → r ≡ none
-uncounted none p = refl
-uncounted (some es) p = let z : ◌≡◌ {A = ℕ} 0 1 = cc in absurd (omega arith)
+pub uncounted : (r : Option (List OldValues)) (e : Broken) → count_of r ≡ Err e → r ≡ none
+uncounted none e p = refl
+uncounted (some es) e p = absurd (cc)

@@ -10,19 +10,20 @@ use lib.ListN.{length, take, length-append}
 use lib.Seq.{take_at, take-take, take-length, length-take-le}
 use Rattle.trail.specs.declared.OldValues.{OldValues}
 use Rattle.trail.specs.declared.Newest.{Newest}
-use Rattle.trail.specs.declared.Newest.TheVariants as newest
+use Rattle.std.specs.Prelude.{Result, Ok, Err}
+use Rattle.trail.specs.declared.Broken.{Broken}
 use Rattle.trail.specs.Records.{record_in}
-use Rattle.trail.specs.Newest.{newest_in}
+use Rattle.trail.specs.Newest.{newest_in, broken_record, read_back}
 use Rattle.trail.proofs.NewestReadsBack.{newest_found, newest_in_use_in, newest_stands_in}
 use Rattle.moving.specs.Rows.{row, GoodRow, newer, and_before, at_most, records_of, records}
 use Rattle.moving.specs.Moving.{moved_length}
-use Rattle.moving.proofs.Entries.{kind_small, entry_length}
+use Rattle.moving.proofs.Entries.{entry_length}
 
 -- ---- the records, one after another from the end
 
 module _ (kinds : Bool) (s : List ℕ) where
   -- Fewer bytes stand before a record.
-  pub shorter : (used : ℕ) (e : OldValues) (n : ℕ) → 0 < used → newest_in kinds (2 ^ 21) s used ≡ newest.Record e n → n < used
+  pub shorter : (used : ℕ) (e : OldValues) (n : ℕ) → 0 < used → newest_in kinds (2 ^ 21) s used ≡ read_back e n → n < used
   shorter used e n h p = omega (arith, (newest_found kinds (2 ^ 21) s used e n p).left)
 
   -- Once it is at least the count of bytes, it does not matter how many records there may be.
@@ -37,11 +38,11 @@ module _ (kinds : Bool) (s : List ℕ) where
       go zero h g ih = refl
       go (suc n) h g ih = at (newest_in kinds (2 ^ 21) s (suc n)) refl
         where
-          at : (r : Newest) → newest_in kinds (2 ^ 21) s (suc n) ≡ r → and_before r (λ m. at_most k kinds s m) ≡ and_before r (λ m. at_most l kinds s m)
-          at newest.Broken p = refl
-          at (newest.Record e m) p =
-              let l = shorter (suc n) e m (omega arith) p in
-              ap (newer e) (ih m (omega arith) (omega arith))
+          at : (r : Result Newest Broken) → newest_in kinds (2 ^ 21) s (suc n) ≡ r → and_before r (λ m. at_most k kinds s m) ≡ and_before r (λ m. at_most l kinds s m)
+          at (Err x) p = refl
+          at (Ok r) p =
+              let l = shorter (suc n) r.values r.left (omega arith) p in
+              ap (newer r.values) (ih r.left (omega arith) (omega arith))
 
   pub none_of : records_of kinds s 0 ≡ some []
   unfolding records_of at_most
@@ -52,17 +53,17 @@ module _ (kinds : Bool) (s : List ℕ) where
   one_more zero h = absurd (omega arith)
   one_more (suc n) h = at (newest_in kinds (2 ^ 21) s (suc n)) refl
     where
-      at : (r : Newest) → newest_in kinds (2 ^ 21) s (suc n) ≡ r → and_before r (λ m. at_most n kinds s m) ≡ and_before r (λ m. at_most m kinds s m)
-      at newest.Broken p = refl
-      at (newest.Record e m) p =
-          let l = shorter (suc n) e m (omega arith) p in
-          ap (newer e) (enough n m m (omega arith) (omega arith))
+      at : (r : Result Newest Broken) → newest_in kinds (2 ^ 21) s (suc n) ≡ r → and_before r (λ m. at_most n kinds s m) ≡ and_before r (λ m. at_most m kinds s m)
+      at (Err x) p = refl
+      at (Ok r) p =
+          let l = shorter (suc n) r.values r.left (omega arith) p in
+          ap (newer r.values) (enough n r.left r.left (omega arith) (omega arith))
 
   -- By the newest: it is broken, or it stands after others.
-  pub broken_of : (used : ℕ) → 0 < used → newest_in kinds (2 ^ 21) s used ≡ newest.Broken → records_of kinds s used ≡ none
+  pub broken_of : (used : ℕ) → 0 < used → newest_in kinds (2 ^ 21) s used ≡ broken_record → records_of kinds s used ≡ none
   broken_of used h p = one_more used h ∙ rw p
 
-  pub ends_of : (used : ℕ) (e : OldValues) (n : ℕ) → 0 < used → newest_in kinds (2 ^ 21) s used ≡ newest.Record e n → records_of kinds s used ≡ newer e (records_of kinds s n)
+  pub ends_of : (used : ℕ) (e : OldValues) (n : ℕ) → 0 < used → newest_in kinds (2 ^ 21) s used ≡ read_back e n → records_of kinds s used ≡ newer e (records_of kinds s n)
   ends_of used e n h p = one_more used h ∙ rw p
 
   -- Where there is a byte, the records are the newest and those before it.
@@ -71,19 +72,19 @@ module _ (kinds : Bool) (s : List ℕ) where
     pub left : ℕ
     pub older : List OldValues
     pub whole : es ≡ entry ∷ older
-    pub last : newest_in kinds (2 ^ 21) s used ≡ newest.Record entry left
+    pub last : newest_in kinds (2 ^ 21) s used ≡ read_back entry left
     pub before : records_of kinds s left ≡ some older
 
   pub parted : (used : ℕ) (es : List OldValues) → 0 < used → records_of kinds s used ≡ some es → Parted used es
   parted used es h p = go (newest_in kinds (2 ^ 21) s used) refl (sym (one_more used h) ∙ p)
     where
-      on : (e : OldValues) (n : ℕ) (r : Option (List OldValues)) → newest_in kinds (2 ^ 21) s used ≡ newest.Record e n → records_of kinds s n ≡ r → newer e r ≡ some es → Parted used es
+      on : (e : OldValues) (n : ℕ) (r : Option (List OldValues)) → newest_in kinds (2 ^ 21) s used ≡ read_back e n → records_of kinds s n ≡ r → newer e r ≡ some es → Parted used es
       on e n none q f w = let z : ◌≡◌ {A = ℕ} 0 1 = cc in absurd (omega arith)
       on e n (some fs) q f w = record { entry = e; left = n; older = fs; whole = cc; last = q; before = f }
 
-      go : (r : Newest) → newest_in kinds (2 ^ 21) s used ≡ r → and_before r (λ n. records_of kinds s n) ≡ some es → Parted used es
-      go newest.Broken q w = let z : ◌≡◌ {A = ℕ} 0 1 = cc in absurd (omega arith)
-      go (newest.Record e n) q w = on e n (records_of kinds s n) q refl w
+      go : (r : Result Newest Broken) → newest_in kinds (2 ^ 21) s used ≡ r → and_before r (λ n. records_of kinds s n) ≡ some es → Parted used es
+      go (Err x) q w = let z : ◌≡◌ {A = ℕ} 0 1 = cc in absurd (omega arith)
+      go (Ok r) q w = on r.values r.left (records_of kinds s r.left) q refl w
 
   -- ---- a row reads as its records
 
@@ -98,7 +99,7 @@ module _ (kinds : Bool) (s : List ℕ) where
       let before : take m s ≡ row kinds es =
       sym (take-take m used s (omega arith)) ∙ ap (take m) p ∙ take_at (row kinds es) (record_in kinds e) m refl
       in
-      let some_byte : 0 < used = omega (arith, entry_length kinds e (kind_small kinds e.kind g.0.kind)) in
+      let some_byte : 0 < used = omega (arith, entry_length kinds e) in
       ends_of used e m some_byte l ∙ ap (newer e) (row_reads es m (omega arith) before g.1)
 
   -- What reads as records is their row.
@@ -127,7 +128,7 @@ module _ (kinds : Bool) (s : List ℕ) where
           let whole = w.whole in
           let same : w.entry ≡ e = cc in
           let others : w.older ≡ es = cc in
-          let last : newest_in kinds (2 ^ 21) s (suc n) ≡ newest.Record e w.left = w.last ∙ ap (λ (x : OldValues). newest.Record x w.left) same in
+          let last : newest_in kinds (2 ^ 21) s (suc n) ≡ read_back e w.left = w.last ∙ ap (λ (x : OldValues). read_back x w.left) same in
           let t = newest_stands_in kinds (omega arith) h last in
           let r = ih w.left (omega (arith, t.count)) (w.before ∙ ap some others) in
           (t.bytes ∙ ap (λ (x : List ℕ). x ++ record_in kinds e) r.0, (t.good, r.1))
@@ -151,25 +152,16 @@ one_division kinds es fs g h p =
 
 -- ---- how long a row is: a byte more for each record in the new form
 
--- Kinds below 5, as all records have that were read in either form.
-abbrev pub SmallRow : List OldValues → Type 0
-SmallRow [] = Unit {0}
-SmallRow (e ∷ es) = (e.kind < 5) × SmallRow es
-
-pub row_small : (kinds : Bool) (es : List OldValues) → GoodRow kinds es → SmallRow es
-row_small kinds [] g = tt
-row_small kinds (e ∷ es) g = (kind_small kinds e.kind g.0.kind, row_small kinds es g.1)
-
-pub row_lengths : (es : List OldValues) → SmallRow es → length (row true es) ≡ length (row false es) + length es
-row_lengths [] g = refl
-row_lengths (e ∷ es) g =
-    omega (arith, row_lengths es g.1, length-append (row true es) (record_in true e), length-append (row false es) (record_in false e), entry_length true e g.0, entry_length false e g.0)
+pub row_lengths : (es : List OldValues) → length (row true es) ≡ length (row false es) + length es
+row_lengths [] = refl
+row_lengths (e ∷ es) =
+    omega (arith, row_lengths es, length-append (row true es) (record_in true e), length-append (row false es) (record_in false e), entry_length true e, entry_length false e)
 
 -- So many bytes has a trail, moved.
 pub moved_lengths : (new : Bool) (s : List ℕ) (es : List OldValues) → records (not new) s ≡ some es → length (row new es) ≡ moved_length new (length s) (length es)
 moved_lengths true s es p =
     let w = only false s es p in
-    row_lengths es (row_small false es w.1) ∙ ap (λ (n : ℕ). n + length es) (sym (ap length w.0))
+    row_lengths es ∙ ap (λ (n : ℕ). n + length es) (sym (ap length w.0))
 moved_lengths false s es p =
     let w = only true s es p in
-    omega (arith, row_lengths es (row_small true es w.1), ap length w.0)
+    omega (arith, row_lengths es, ap length w.0)

@@ -10,14 +10,15 @@ use lib.Dec.{ltb}
 use lib.ListN.{length, take, drop}
 use lib.Seq.{take_at}
 use borrow.Author.Tests.{ltb-true, ltb-false, lt-ltb, le-ltb}
+use Rattle.trail.specs.declared.Kind.TheVariants.{FromOld}
 use Rattle.trail.specs.declared.OldValues.{OldValues}
 use Rattle.trail.specs.Records.{record_in}
-use Rattle.moving.specs.declared.Moved.{Moved}
-use Rattle.moving.specs.declared.Moved.TheVariants.{Bytes, Short, Broken}
+use Rattle.std.specs.Prelude.{Ok, Err}
+use Rattle.moving.specs.declared.MoveRefusal.TheVariants as refusal
 use Rattle.moving.specs.Rows.{row, GoodRow, records}
-use Rattle.moving.specs.Moving.{put_records, move}
+use Rattle.moving.specs.Moving.{Moved, put_records, move}
 use Rattle.moving.proofs.Entries.{kind_small}
-use Rattle.moving.proofs.Division.{reads, only, row_small, row_lengths}
+use Rattle.moving.proofs.Division.{reads, only, row_lengths}
 
 -- ---- a move is accepted exactly if the bytes are some records in a row, and the output holds them, moved
 
@@ -38,27 +39,27 @@ pub record Refused (new : Bool) (s out : List ℕ) : Type 0 where
   pub short : length out < length (row new entries)
 
 pub accepted : (new : Bool) (es : List OldValues) (out : List ℕ) → GoodRow (not new) es → length (row new es) ≤ length out
-    → move new (row (not new) es) out ≡ (Bytes (length (row new es)), row new es ++ drop (length (row new es)) out)
+    → move new (row (not new) es) out ≡ (Ok (length (row new es)), row new es ++ drop (length (row new es)) out)
 unfolding move
 accepted new es out g h = rw (reads (not new) es g, le-ltb (length out) (length (row new es)) h)
 
 pub refused_short : (new : Bool) (es : List OldValues) (out : List ℕ) → GoodRow (not new) es → length out < length (row new es)
-    → move new (row (not new) es) out ≡ (Short, out)
+    → move new (row (not new) es) out ≡ (Err refusal.Short, out)
 unfolding move
 refused_short new es out g h = rw (reads (not new) es g, lt-ltb (length out) (length (row new es)) h)
 
 -- Each answer, and what it says.
 abbrev pub Says : Bool → List ℕ → List ℕ → List ℕ → Moved → Type 0
-Says new s out out' (Bytes n) = Accepted new s out n out'
-Says new s out out' Short = Refused new s out × (out' ≡ out)
-Says new s out out' Broken = ((es : List OldValues) → GoodRow (not new) es → s ≡ row (not new) es → ⊥) × (out' ≡ out)
+Says new s out out' (Ok n) = Accepted new s out n out'
+Says new s out out' (Err refusal.Short) = Refused new s out × (out' ≡ out)
+Says new s out out' (Err refusal.Broken) = ((es : List OldValues) → GoodRow (not new) es → s ≡ row (not new) es → ⊥) × (out' ≡ out)
 
 pub says : (new : Bool) (s out : List ℕ) → Says new s out (move new s out).1 (move new s out).0
 unfolding move
 says new s out = go (records (not new) s) refl
   where
     fits : (es : List OldValues) (t : Bool) → records (not new) s ≡ some es → ltb (length out) (length (row new es)) ≡ t
-        → let r = cond {A = Moved × List ℕ} t (Short, out) (Bytes (length (row new es)), row new es ++ drop (length (row new es)) out) in Says new s out r.1 r.0
+        → let r = cond {A = Moved × List ℕ} t (Err refusal.Short, out) (Ok (length (row new es)), row new es ++ drop (length (row new es)) out) in Says new s out r.1 r.0
     fits es true e f =
         let w = only (not new) s es e in
         (record { entries = es; good = w.1; input = w.0; short = ltb-true (length out) (length (row new es)) f }, refl)
@@ -85,29 +86,29 @@ written {new} {s} {out} {n} {out'} a =
 
 pub longer : {s out : List ℕ} {n : ℕ} {out' : List ℕ} (a : Accepted true s out n out') → n ≡ length s + length a.entries
 longer {s} {out} {n} {out'} a =
-    omega (arith, a.count, row_lengths a.entries (row_small false a.entries a.good), ap length a.input)
+    omega (arith, a.count, row_lengths a.entries, ap length a.input)
 
 pub shorter : {s out : List ℕ} {n : ℕ} {out' : List ℕ} (a : Accepted false s out n out') → n + length a.entries ≡ length s
 shorter {s} {out} {n} {out'} a =
-    omega (arith, a.count, row_lengths a.entries (row_small true a.entries a.good), ap length a.input)
+    omega (arith, a.count, row_lengths a.entries, ap length a.input)
 
 -- ---- there and back
 
 -- Records of an old trail are good records of a new one.
 pub good_new : (es : List OldValues) → GoodRow false es → GoodRow true es
 good_new [] g = tt
-good_new (e ∷ es) g = (record { kind = kind_small false e.kind g.0.kind; marks = g.0.marks; p = g.0.p; a = g.0.a; x = g.0.x; y = g.0.y; place = g.0.place; value = g.0.value }, good_new es g.1)
+good_new (e ∷ es) g = (record { kind = kind_small e.kind; marks = g.0.marks; p = g.0.p; a = g.0.a; x = g.0.x; y = g.0.y; place = g.0.place; value = g.0.value }, good_new es g.1)
 
 -- Old to new to old gives the same bytes.
 pub there_and_back : {s out : List ℕ} {n : ℕ} {out' : List ℕ} → Accepted true s out n out' → (out₂ : List ℕ) → length s ≤ length out₂
-    → move false (take n out') out₂ ≡ (Bytes (length s), s ++ drop (length s) out₂)
+    → move false (take n out') out₂ ≡ (Ok (length s), s ++ drop (length s) out₂)
 there_and_back {s} {out} {n} {out'} a out₂ h =
     rw (written a, a.input)
     (accepted false a.entries out₂ (good_new a.entries a.good) (omega (arith, ap length a.input)))
 
 -- The same records, with each kind 0.
 abbrev pub kind_zero : OldValues → OldValues
-kind_zero e = record { kind = 0; marks = e.marks; p = e.p; a = e.a; x = e.x; y = e.y; place = e.place; value = e.value }
+kind_zero e = record { kind = FromOld; marks = e.marks; p = e.p; a = e.a; x = e.x; y = e.y; place = e.place; value = e.value }
 
 pub zero_good : (es : List OldValues) → GoodRow true es → GoodRow false (map kind_zero es)
 zero_good [] g = tt
@@ -124,7 +125,7 @@ zero_row (e ∷ es) = rw (zero_row es, zero_entry e)
 
 -- New to old to new gives the same with each kind 0.
 pub back_and_there : {s out : List ℕ} {n : ℕ} {out' : List ℕ} (a : Accepted false s out n out') → (out₂ : List ℕ) → length s ≤ length out₂
-    → move true (take n out') out₂ ≡ (Bytes (length s), row true (map kind_zero a.entries) ++ drop (length s) out₂)
+    → move true (take n out') out₂ ≡ (Ok (length s), row true (map kind_zero a.entries) ++ drop (length s) out₂)
 back_and_there {s} {out} {n} {out'} a out₂ h =
     let es = map kind_zero a.entries in
     let l : length (row true es) ≡ length s = zero_length a in
@@ -137,7 +138,7 @@ back_and_there {s} {out} {n} {out'} a out₂ h =
     zero_length : (a : Accepted false s out n out') → length (row true (map kind_zero a.entries)) ≡ length s
     zero_length a =
         let es = a.entries in
-        omega (arith, row_lengths (map kind_zero es) (row_small false (map kind_zero es) (zero_good es a.good)), row_lengths es (row_small true es a.good), ap length (zero_row es), map_length es, ap length a.input)
+        omega (arith, row_lengths (map kind_zero es), row_lengths es, ap length (zero_row es), map_length es, ap length a.input)
 
 -- ---- the two readings: a moved trail is taken back value by value as the old one was
 

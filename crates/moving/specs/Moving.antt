@@ -1,30 +1,28 @@
 -- Document 02, W12: whole trails moved from the old form to the new one and back.
 -- Assumes nothing.
-use Rattle.std.specs.Prelude.{ℕ, ◌+◌, ◌-◌, ◌≤◌, ◌≡◌, Bool, true, false, not, cond, List, [], ◌∷◌, ◌++◌, ltb, length, drop}
+use Rattle.std.specs.Prelude.{ℕ, ◌+◌, ◌-◌, ◌≤◌, ◌≡◌, Bool, true, false, not, cond, List, [], ◌∷◌, ◌++◌, ltb, length, drop, Result, Ok, Err}
 use Rattle.std.proofs.Math.Option.{Option, none, some}
 use Rattle.std.proofs.Math.Seq.{slice}
 use Rattle.trail.specs.declared.OldValues.{OldValues}
 use Rattle.trail.specs.declared.Newest.{Newest}
-use Rattle.trail.specs.declared.Newest.TheVariants as newest
-use Rattle.moving.specs.declared.Moved.{Moved}
-use Rattle.moving.specs.declared.Moved.TheVariants.{Bytes, Broken, Short}
-use Rattle.moving.specs.declared.judging.Start.{Start}
-use Rattle.moving.specs.declared.judging.Start.TheVariants as start
-use Rattle.moving.specs.declared.judging.Count.{Count}
-use Rattle.moving.specs.declared.judging.Count.TheVariants as count
-use Rattle.moving.specs.declared.judging.Room.{Room}
-use Rattle.moving.specs.declared.judging.Room.TheVariants as room
+use Rattle.trail.specs.declared.Broken.{Broken}
+use Rattle.moving.specs.declared.MoveRefusal.{MoveRefusal}
+use Rattle.moving.specs.declared.MoveRefusal.TheVariants as refusal
 use Rattle.moving.specs.Rows.{row, records}
 
 -- ---- a move, to the new form or to the old one
 
+-- What became of a move: the count of bytes written, which is the moved trail's count in use; or why it was refused.
+abbrev pub Moved : Type 0
+Moved = Result ℕ MoveRefusal
+
 -- The bytes m at the front of the output, and every other byte as it was; Short, and nothing, if they are more than the output holds.
 abbrev pub put_front : List ℕ → List ℕ → Moved × List ℕ
-put_front m out = cond (ltb (length out) (length m)) (Short, out) (Bytes (length m), m ++ drop (length m) out)
+put_front m out = cond (ltb (length out) (length m)) (Err refusal.Short, out) (Ok (length m), m ++ drop (length m) out)
 
 -- The records in the form that is asked for. Without all of them, Broken, and nothing.
 abbrev pub put_records : Bool → Option (List OldValues) → List ℕ → Moved × List ℕ
-put_records new none out = (Broken, out)
+put_records new none out = (Err refusal.Broken, out)
 put_records new (some es) out = put_front (row new es) out
 
 -- What the input holds is read in the other form.
@@ -34,18 +32,18 @@ move new s out = put_records new (records (not new) s) out
 -- ---- what the code says of its input
 
 -- Where the newest record begins.
-abbrev pub start_of : Newest → Start
-start_of newest.Broken = start.Broken
-start_of (newest.Record o n) = start.At n
+abbrev pub start_of : Result Newest Broken → Result ℕ Broken
+start_of (Err e) = Err (record {})
+start_of (Ok r) = Ok r.left
 
 -- How many records there are.
-abbrev pub count_of : Option (List OldValues) → Count
-count_of none = count.Broken
-count_of (some es) = count.Records (length es)
+abbrev pub count_of : Option (List OldValues) → Result ℕ Broken
+count_of none = Err (record {})
+count_of (some es) = Ok (length es)
 
 -- So many bytes, if the output holds them.
-abbrev pub room_of : ℕ → ℕ → Room
-room_of out n = cond (ltb out n) room.Short (room.Bytes n)
+abbrev pub room_of : ℕ → ℕ → Moved
+room_of out n = cond (ltb out n) (Err refusal.Short) (Ok n)
 
 -- A record of n bytes more or fewer: one byte more for each record in the new form.
 abbrev pub moved_length : Bool → ℕ → ℕ → ℕ

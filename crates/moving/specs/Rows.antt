@@ -1,10 +1,10 @@
 -- Document 02, W12: a trail as records in a row, in the old form or in the new one, where each record begins with its kind.
 -- Assumes nothing.
-use Rattle.std.specs.Prelude.{ℕ, zero, suc, ◌^◌, Bool, List, [], ◌∷◌, ◌++◌, length}
+use Rattle.std.specs.Prelude.{ℕ, zero, suc, ◌^◌, Bool, List, [], ◌∷◌, ◌++◌, length, Result, Ok, Err}
 use Rattle.std.proofs.Math.Option.{Option, none, some}
 use Rattle.trail.specs.declared.OldValues.{OldValues}
 use Rattle.trail.specs.declared.Newest.{Newest}
-use Rattle.trail.specs.declared.Newest.TheVariants.{Record, Broken}
+use Rattle.trail.specs.declared.Broken.{Broken}
 use Rattle.trail.specs.Records.{record_in, GoodIn}
 use Rattle.trail.specs.Newest.{newest_in}
 
@@ -25,9 +25,9 @@ newer e none = none
 newer e (some es) = some (e ∷ es)
 
 -- The newest record, and those that `older` finds in the bytes before it.
-abbrev pub and_before : Newest → (ℕ → Option (List OldValues)) → Option (List OldValues)
-and_before Broken older = none
-and_before (Record e n) older = newer e (older n)
+abbrev pub and_before : Result Newest Broken → (ℕ → Option (List OldValues)) → Option (List OldValues)
+and_before (Err e) older = none
+and_before (Ok r) older = newer r.values (older r.left)
 
 -- No record where there is no byte.
 abbrev pub if_any : ℕ → Option (List OldValues) → Option (List OldValues)

@@ -7,41 +7,47 @@ mod writing;
 ghost use Rattle.std.specs.Prelude.{◌≡◌, true, false};
 ghost use Rattle.moving.specs.Moving.{move as move_of};
 
-use crate::judging::{Count, Room, count_records, judge_room};
+use crate::judging::{count_records, judge_room};
 use crate::writing::write;
+use trail::Broken;
 
-// What became of a move: the count of bytes written, which is the moved trail's count in use; or refused and nothing written: a record is
-// broken (8), or the output is too short (9).
-#[derive(Clone, Copy)]
-pub enum Moved {
-    Bytes(usize),
-    Broken,
-    Short,
+// Why a move was refused: a record is broken, or the output is too short. Nothing is written then.
+#[derive(Clone, Copy, Debug, PartialEq, Eq)]
+pub enum MoveRefusal {
+    Broken = 8,
+    Short = 9,
 }
 
-// The whole input is judged before a byte of the output is written.
-fn move_all(new: bool, s: &[u8], out: &mut [u8]) -> Moved
+impl From<Broken> for MoveRefusal {
+    ghost use Rattle.moving.specs.declared.MoveRefusal.TheVariants as refusal;
+    ghost use Rattle.std.specs.Prelude.{◌≡◌};
+
+    ghost from_gives = { λ _ e. e ≡ refusal.Broken };
+
+    fn from(_e: Broken) -> MoveRefusal {
+        MoveRefusal::Broken
+    }
+}
+
+// The whole input is judged before a byte of the output is written. The answer is the count of bytes written, which is the moved trail's count in use.
+fn move_all(new: bool, s: &[u8], out: &mut [u8]) -> Result<usize, MoveRefusal>
     ensures { (result, out.new) ≡ move_of new s.now out.old }
 {
-    let Count::Records(n) = count_records(!new, s) else {
-        return Moved::Broken;
-    };
-    let Room::Bytes(total) = judge_room(new, s.len(), n, out.len()) else {
-        return Moved::Short;
-    };
+    let n = count_records(!new, s)?;
+    let total = judge_room(new, s.len(), n, out.len())?;
     write(new, s, out, total);
-    Moved::Bytes(total)
+    Ok(total)
 }
 
 // From the old form to the new one: each record gets the kind 0.
-pub fn to_new(old: &[u8], out: &mut [u8]) -> Moved
+pub fn to_new(old: &[u8], out: &mut [u8]) -> Result<usize, MoveRefusal>
     ensures { (result, out.new) ≡ move_of true old.now out.old }
 {
     move_all(true, old, out)
 }
 
 // From the new form to the old one: the kinds are dropped.
-pub fn to_old(new: &[u8], out: &mut [u8]) -> Moved
+pub fn to_old(new: &[u8], out: &mut [u8]) -> Result<usize, MoveRefusal>
     ensures { (result, out.new) ≡ move_of false new.now out.old }
 {
     move_all(false, new, out)

@@ -1,20 +1,25 @@
 -- `move_all` meets its contract: a law for each way out.
 -- Assumes nothing.
+use mathlib.Core.Path.{sym}
+use Rattle.std.proofs.lemmas.Result.{err_from_is_err_and}
 use Rattle.moving.proofs.Exits.{broken, few, short, moves}
 use Rattle.moving.proofs.move_all.Goals as goal
 
-pub returns-in_default : goal.returns-in_default
-returns-in_default c =
-    broken c.args.new c.args.s.now c.args.out.now c.count_records.ensures c.in_default.is
+pub returns-in_err-n : goal.returns-in_err-n
+returns-in_err-n c =
+    let p = err_from_is_err_and c.from_residual.result c.from_residual.ensures.1 in
+    rw (p.1, p.2) (sym (broken c.args.new c.args.s.now c.args.out.now c.in_err-n.ensures))
 
 pub judge_room-requires : goal.judge_room-requires
-judge_room-requires c =
-    few c.args.new c.args.s.now c.args.out.now c.count_records.ensures c.in-Records.is
+judge_room-requires c = few c.args.new c.args.s.now c.args.out.now c.in_ok-n.ensures
 
-pub returns-in_default-judge_room : goal.returns-in_default-judge_room
-returns-in_default-judge_room c =
-    short c.args.new c.args.s.now c.args.out.now c.count_records.ensures c.in-Records.is c.judge_room.ensures c.in_default-judge_room.is
+pub returns-in_err-total : goal.returns-in_err-total
+returns-in_err-total c =
+    let p = err_from_is_err_and c.from_residual-in_err-total.result c.from_residual-in_err-total.ensures.1 in
+    rw (p.1, p.2) (sym (short c.args.new c.args.s.now c.args.out.now c.in_ok-n.ensures c.in_err-total.ensures))
 
 pub write-requires : goal.write-requires
-write-requires c =
-    moves c.args.new c.args.s.now c.args.out.now c.count_records.ensures c.in-Records.is c.judge_room.ensures c.in-Bytes.is
+write-requires c = moves c.args.new c.args.s.now c.args.out.now c.in_ok-n.ensures c.in_ok-total.ensures
+
+pub returns : goal.returns
+returns c = sym c.write.ensures

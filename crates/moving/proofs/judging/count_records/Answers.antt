@@ -1,16 +1,20 @@
+use mathlib.Core.Path.{sym}
+use Rattle.reading.proofs.ReadingNumbers.{the_error}
 use Rattle.moving.proofs.Counting.{goes_on, stops, ends}
 use Rattle.moving.proofs.judging.count_records.Goals as goal
 
-pub returns-in_default : goal.returns-in_default
-returns-in_default c = stops c.loop-used.invariant c.loop-used-test.true c.newest_start.ensures c.in_default.is
+pub returns-in_err-used : goal.returns-in_err-used
+returns-in_err-used c =
+    rw (the_error c.from_residual.result c.from_residual.ensures.0)
+    (sym (stops c.loop-used.invariant c.loop-used-test.true c.newest_start.ensures c.in_err-used.was))
 
 pub loop-used-smaller : goal.loop-used-smaller
 loop-used-smaller c =
-    (goes_on c.loop-used.invariant c.loop-used-test.true c.newest_start.ensures c.in-At.is).1
+    (goes_on c.loop-used.invariant c.loop-used-test.true c.newest_start.ensures c.in_ok-used.was).1
 
 pub loop-used-preserved : goal.loop-used-preserved
 loop-used-preserved c =
-    (goes_on c.loop-used.invariant c.loop-used-test.true c.newest_start.ensures c.in-At.is).0
+    (goes_on c.loop-used.invariant c.loop-used-test.true c.newest_start.ensures c.in_ok-used.was).0
 
 pub returns : goal.returns
-returns c = ends c.loop-used.invariant c.loop-used-test.false
+returns c = sym (ends c.loop-used.invariant c.loop-used-test.false)
