@@ -20,9 +20,6 @@ use Rattle.language.specs.declared.forms.Form.TheVariants.{Word, Comparison, Wri
 use Rattle.language.specs.Names.{split, destination_name, function_name, shift_name, comparison_name, register_name}
 use Rattle.language.specs.Line.{operand, fields_by, fields, form, spaced, line}
 
-clash : {A : Type 0} → ◌≡◌ {A = ℕ} 0 1 → A
-clash z = absurd (omega arith)
-
 holds : (b : Bool) → T b → b ≡ true
 holds true t = refl
 holds false t = absurd t
@@ -124,7 +121,7 @@ split_append [] r ts p e = e
 split_append (b ∷ t) r ts p e = go (eqb b 32) refl (split_append t r ts)
   where
     go : (x : Bool) → eqb b 32 ≡ x → (blankless t ≡ true → split r ≡ [] ∷ ts → split (t ++ r) ≡ t ∷ ts) → split ((b ∷ t) ++ r) ≡ (b ∷ t) ∷ ts
-    go true h more = let f : false ≡ true = rw h at p in clash (cc)
+    go true h more = let f : false ≡ true = rw h at p in cc
     go false h more = rw (h, more (rw h at p) e)
 
 split_spaced : (ts : List (List ℕ)) → all_blankless ts ≡ true → split (spaced ts) ≡ [] ∷ ts
@@ -134,7 +131,7 @@ split_spaced (t ∷ ts) e = go (blankless t) refl (split_spaced ts)
   where
     go : (x : Bool) → blankless t ≡ x → (all_blankless ts ≡ true → split (spaced ts) ≡ [] ∷ ts) → split (spaced (t ∷ ts)) ≡ [] ∷ t ∷ ts
     go true h more = rw (split_append t (spaced ts) ts h (more (rw h at e)))
-    go false h more = let f : false ≡ true = rw h at e in clash (cc)
+    go false h more = let f : false ≡ true = rw h at e in cc
 
 -- ---- the law
 

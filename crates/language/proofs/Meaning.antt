@@ -64,10 +64,7 @@ first ts = get_or ts 0 []
 named_by_form : (w : ℕ) (t : Form) → Told t w → is_word t ≡ false → of always_halts w ≡ false
     → first (fields_by t w (fields_of w)) ≡ class_name (class_of_word w)
 unfolding fields_by
-named_by_form w Word i n h = clash n
-  where
-    clash : {A : Type 0} → true ≡ false → A
-    clash e = let z : ◌≡◌ {A = ℕ} 0 1 = cc in absurd (omega arith)
+named_by_form w Word i n h = cc
 named_by_form w Comparison i n h = comparison_named w i.0
 named_by_form w Write i n h = same_name (dsf w) (omega arith) ∙ ap class_name (sym (destination_class w h i.0))
 named_by_form w Shift i n h = same_name (dsf w) (omega arith) ∙ ap class_name (sym (destination_class w h i.0))

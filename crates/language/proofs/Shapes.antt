@@ -16,12 +16,9 @@ use Rattle.language.specs.declared.forms.Form.TheVariants.{Word, Comparison, Wri
 use Rattle.language.specs.Line.{ignoring, function_form, form}
 use Rattle.language.proofs.ByClass.{comparison_class, comparison_form, word_form, write_form, result_form}
 
-pub data Nothing : Type 0 where
-  nothing : Nothing
-
 -- A comparison; a write; a function with its result for A, X, Y or P: a shift, one of M, one of R and M.
 abbrev pub Told : Form → ℕ → Type 0
-Told Word w = Nothing
+Told Word w = Unit {0}
 Told Comparison w = (csf w ≡ 1) × (dsf w ≡ 0)
 Told Write w = (csf w ≡ 0) × (6 ≤ dsf w) × (fsf w ≡ 0)
 Told Shift w = (csf w ≡ 0) × (dsf w ≤ 5) × (fsf w ≡ 12) × (addr w ≡ 0)
@@ -53,10 +50,7 @@ writing w h l = leb-true 6 (dsf w) (rw (le-leb 2 (class_of_word w) h, le-leb (cl
 both : (a b : Bool) → (a && b) ≡ true → (a ≡ true) × (b ≡ true)
 both true true e = (refl, refl)
 both true false e = (refl, e)
-both false b e = (e, clash (cc))
-  where
-    clash : {A : Type 0} → ◌≡◌ {A = ℕ} 0 1 → A
-    clash z = absurd (omega arith)
+both false b e = (e, cc)
 
 result : (w : ℕ) → 4 ≤ class_of_word w → (dsf w ≤ 5) × (fsf w ≤ 12)
 result w h =
@@ -71,7 +65,7 @@ told_ignoring w bits t h = go (eqb bits 0) refl
   where
     go : (b : Bool) → eqb bits 0 ≡ b → Told (ignoring bits t) w
     go true e = rw e (h (eqb-true bits 0 e))
-    go false e = rw e nothing
+    go false e = rw e tt
 
 told_function : (w : ℕ) → csf w ≡ 0 → dsf w ≤ 5 → fsf w ≤ 12 → Told (function_form (fields_of w)) w
 unfolding function_form
@@ -99,7 +93,7 @@ told w =
         (told_ignoring w (dsf w) Comparison (λ z. (eqb-true (csf w) 1 (comparison_class w ∙ rw e), z)))
 
     one : class_of_word w ≡ 1 → Told (form w) w
-    one e = subst (λ t. Told t w) (sym (word_form w e)) nothing
+    one e = subst (λ t. Told t w) (sym (word_form w e)) tt
 
     some : 2 ≤ class_of_word w → class_of_word w ≤ 3 → Told (form w) w
     some h g =

@@ -37,16 +37,13 @@ module _ {main out : List ℕ} where
     listed {n} {after} h e p =
         rw e (leaves (rw (le-ltb (2 ^ 20) (length main) short, le-ltb (length out) (length (listing main)) h)) p.after_is)
 
-clash : {A : Type 0} → ◌≡◌ {A = ℕ} 0 1 → A
-clash z = absurd (omega arith)
-
 pub answered : (main : List ℕ) (room n : ℕ) → answer main room ≡ Ok n → n ≡ length (listing main)
 unfolding answer
 answered main room n e = go (ltb (2 ^ 20) (length main)) (ltb room (length (listing main))) refl refl
   where
     go : (a b : Bool) → ltb (2 ^ 20) (length main) ≡ a → ltb room (length (listing main)) ≡ b → n ≡ length (listing main)
-    go true b p q = let f : Err StoreTooLong ≡ Ok n = rw p at e in clash (cc)
-    go false true p q = let f : Err OutputTooShort ≡ Ok n = rw (p, q) at e in clash (cc)
+    go true b p q = let f : Err StoreTooLong ≡ Ok n = rw p at e in cc
+    go false true p q = let f : Err OutputTooShort ≡ Ok n = rw (p, q) at e in cc
     go false false p q = let f : Ok (length (listing main)) ≡ Ok n = rw (p, q) at e in cc
 
 -- A listing is within the output. The two laws are what a part `&out[..n]` asks.
