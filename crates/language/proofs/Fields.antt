@@ -10,6 +10,7 @@ use lib.Dec.{T, ltb, eqb}
 use lib.ListN.{length, take, drop, length-append}
 use lib.Seq.{take_at, drop_at}
 use borrow.Author.Tests.{ne_eqb}
+use Rattle.std.specs.Cmp.Derive.{both_true as both}
 use Rattle.report.specs.Parts as parts
 use Rattle.report.proofs.Finite.{all, below}
 use Rattle.instruction.specs.Fields.{fields_of}
@@ -33,9 +34,6 @@ blankless (b ∷ t) = not (eqb b (code " ")) && blankless t
 unfoldable all_blankless : List (List ℕ) → Bool
 all_blankless [] = true
 all_blankless (t ∷ ts) = blankless t && all_blankless ts
-
-both : {a b : Bool} → a ≡ true → b ≡ true → (a && b) ≡ true
-both p q = rw (p, q)
 
 blankless_append : (s t : List ℕ) → blankless s ≡ true → blankless t ≡ true → blankless (s ++ t) ≡ true
 unfolding blankless

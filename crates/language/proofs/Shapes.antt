@@ -6,6 +6,7 @@ use mathlib.Core.Bool.{Bool, true, false, ◌&&◌}
 use native.Mathlib.Omega.{arith}
 use lib.Dec.{eqb, leb}
 use borrow.Author.Tests.{eqb-true, eqb-false, leb-true, leb-false, le-leb}
+use Rattle.std.proofs.lemmas.Bool.{and_parts}
 use Rattle.report.specs.Parts.{rsf, dsf, csf, fsf, addr}
 use Rattle.report.proofs.Bits.{by_le}
 use Rattle.report.proofs.Finite.{over}
@@ -47,15 +48,10 @@ plain w h = eqb-true (csf w) 0 (rw (le-leb 2 (class_of_word w) h) at (plain_test
 writing : (w : ℕ) → 2 ≤ class_of_word w → class_of_word w ≤ 3 → 6 ≤ dsf w
 writing w h l = leb-true 6 (dsf w) (rw (le-leb 2 (class_of_word w) h, le-leb (class_of_word w) 3 l) at (write_test w))
 
-both : (a b : Bool) → (a && b) ≡ true → (a ≡ true) × (b ≡ true)
-both true true e = (refl, refl)
-both true false e = (refl, e)
-both false b e = (e, cc)
-
 result : (w : ℕ) → 4 ≤ class_of_word w → (dsf w ≤ 5) × (fsf w ≤ 12)
 result w h =
     let t : (leb (dsf w) 5 && leb (fsf w) 12) ≡ true = rw (le-leb 4 (class_of_word w) h) at (result_test w) in
-    let p = both (leb (dsf w) 5) (leb (fsf w) 12) t in
+    let p = and_parts (leb (dsf w) 5) (leb (fsf w) 12) t in
     (leb-true (dsf w) 5 p.0, leb-true (fsf w) 12 p.1)
 
 -- ---- the law
