@@ -14,9 +14,8 @@ use Rattle.report.specs.Parts.{Where, word_at, with_word}
 use Rattle.machine.specs.Held.{machine_of, where_of, place_of}
 use Rattle.machine.specs.declared.Place.{Place}
 use Rattle.trail.specs.declared.Kind.{Kind}
-use Rattle.trail.specs.declared.Word.{Word}
-use Rattle.trail.specs.declared.Word.TheVariants.{Kept, Changed}
-use Rattle.trail.specs.Records.{differs, place_number, word_changed, word_place, word_value, changed_word, old_values, old_values_of}
+use Rattle.std.specs.Prelude.{Some, None}
+use Rattle.trail.specs.Records.{Word, differs, place_number, word_changed, word_place, word_value, changed_word, old_values, old_values_of}
 use Rattle.trail.proofs.Marks.{marks}
 use Rattle.trail.proofs.RecordRestores.{Touched, kept, put, with_own_word, word_put, place_back}
 use Rattle.seeking.specs.Seeking.{names, holds}
@@ -39,11 +38,11 @@ same n m e = ap not (sym (eq-eqb n m (sym e)))
 abbrev held : Place → Word → Bool
 held q w = cond (word_changed w) (names q (word_place w)) false
 
-held_kept : (q : Place) (old new : Mem) → new ≡ old → held q Kept ≡ differs (word_at old (where_of q)) (word_at new (where_of q))
+held_kept : (q : Place) (old new : Mem) → new ≡ old → held q None ≡ differs (word_at old (where_of q)) (word_at new (where_of q))
 held_kept q old new e = same (word_at old (where_of q)) (word_at new (where_of q)) (ap (λ (m : Mem). word_at m (where_of q)) e)
 
 held_put : (q : Place) (old : Mem) (p : Where) (v : ℕ) → p.1 < 2 ^ 20 → eqb (word_at old p) (word_at (with_word old p v) p) ≡ false
-    → held q (Changed (place_of p) (word_at old p)) ≡ differs (word_at old (where_of q)) (word_at (with_word old p v) (where_of q))
+    → held q (Some (record { place = place_of p; value = word_at old p })) ≡ differs (word_at old (where_of q)) (word_at (with_word old p v) (where_of q))
 held_put q old p v h k = go (names q (place_number (place_of p))) refl
   where
     go : (t : Bool) → names q (place_number (place_of p)) ≡ t → t ≡ differs (word_at old (where_of q)) (word_at (with_word old p v) (where_of q))
@@ -65,7 +64,7 @@ held_is q {old} {new} (kept (some p) e) =
 held_is q {old} {new} (put p v f h e) = rw e (go (eqb (word_at old p) (word_at (with_word old p v) p)) refl)
   where
     go : (t : Bool) → eqb (word_at old p) (word_at (with_word old p v) p) ≡ t
-        → held q (cond t Kept (Changed (place_of p) (word_at old p))) ≡ differs (word_at old (where_of q)) (word_at (with_word old p v) (where_of q))
+        → held q (cond t None (Some (record { place = place_of p; value = word_at old p }))) ≡ differs (word_at old (where_of q)) (word_at (with_word old p v) (where_of q))
     go true k =
         let d : v ≡ word_at old p = sym (eqb-true (word_at old p) (word_at (with_word old p v) p) k ∙ word_put old p v f) in
         held_kept q old (with_word old p v) (rw d (with_own_word old p))
@@ -81,19 +80,19 @@ holds_changed q k old new p t =
 
 -- ---- and its value is what stood there
 
-value_kept : (q : Place) (G : Type 0) → held q Kept ≡ true → G
+value_kept : (q : Place) (G : Type 0) → held q None ≡ true → G
 value_kept q G h = let z : ◌≡◌ {A = ℕ} 0 1 = cc in absurd (omega arith)
 
 value_is : (q : Place) {old new : Mem} {p : Option Where} → Touched old new p → held q (changed_word old new p) ≡ true → word_value (changed_word old new p) ≡ word_at old (where_of q)
 value_is q {old} {new} (kept none e) h = value_kept q _ h
 value_is q {old} {new} (kept (some p) e) h = go (eqb (word_at old p) (word_at new p)) (eq-eqb (word_at old p) (word_at new p) (cc)) h
   where
-    go : (t : Bool) → t ≡ true → held q (cond t Kept (Changed (place_of p) (word_at old p))) ≡ true → word_value (cond t Kept (Changed (place_of p) (word_at old p))) ≡ word_at old (where_of q)
+    go : (t : Bool) → t ≡ true → held q (cond t None (Some (record { place = place_of p; value = word_at old p }))) ≡ true → word_value (cond t None (Some (record { place = place_of p; value = word_at old p }))) ≡ word_at old (where_of q)
     go true k g = value_kept q _ g
     go false k g = let z : ◌≡◌ {A = ℕ} 0 1 = cc in absurd (omega arith)
 value_is q {old} {new} (put p v f l e) h = go (eqb (word_at old p) (word_at new p)) h
   where
-    go : (t : Bool) → held q (cond t Kept (Changed (place_of p) (word_at old p))) ≡ true → word_value (cond t Kept (Changed (place_of p) (word_at old p))) ≡ word_at old (where_of q)
+    go : (t : Bool) → held q (cond t None (Some (record { place = place_of p; value = word_at old p }))) ≡ true → word_value (cond t None (Some (record { place = place_of p; value = word_at old p }))) ≡ word_at old (where_of q)
     go true g = value_kept q _ g
     go false g = ap (word_at old) (sym (place_back p l) ∙ names_where q (place_number (place_of p)) g)
 

@@ -1,41 +1,17 @@
--- One law for each way out of `names` and `holds`; and a number that names a place is that place's, and no other's.
+-- A number that names a place is that place's, and no other's.
 -- Assumes nothing.
-use Prim.Native.Nat.{ℕ, ◌-◌, ◌/◌, ◌%◌, ◌^◌, ◌<◌, ◌≤◌}
-use mathlib.Core.Path.{◌≡◌, ap, sym, ◌∙◌}
+use Prim.Native.Nat.{ℕ, ◌-◌, ◌^◌}
+use mathlib.Core.Path.{◌≡◌, ap, sym}
 use mathlib.Core.Bool.{Bool, true, false, cond}
 use native.Mathlib.Omega.{arith}
 use lib.Dec.{ltb, eqb}
-use borrow.Author.Tests.{lt-ltb, le-ltb, eq-eqb, ne_eqb, eqb-true}
+use borrow.Author.Tests.{eq-eqb, eqb-true}
 use Rattle.report.specs.Parts.{Where}
 use Rattle.machine.specs.Held.{where_of}
-use Rattle.machine.specs.declared.MainAddress.{MainAddress}
-use Rattle.machine.specs.declared.PortNumber.{PortNumber}
 use Rattle.machine.specs.declared.Place.{Place}
 use Rattle.machine.specs.declared.Place.TheVariants.{Main, Port}
-use Rattle.trail.specs.declared.OldValues.{OldValues}
 use Rattle.trail.specs.Records.{where_of_number}
-use Rattle.seeking.specs.Seeking.{names, holds}
-
-module _ (q : Place) (n : ℕ) where
-  pub main_low : (a : MainAddress) → q ≡ Main a → n < 2 ^ 20 → eqb n a.0 ≡ names q n
-  main_low a e h = rw (e, lt-ltb n (2 ^ 20) h)
-
-  pub main_high : (a : MainAddress) → q ≡ Main a → 2 ^ 20 ≤ n → false ≡ names q n
-  main_high a e h = rw (e, le-ltb n (2 ^ 20) h)
-
-  pub port_low : (a : PortNumber) → q ≡ Port a → n < 2 ^ 20 → false ≡ names q n
-  port_low a e h = rw (e, lt-ltb n (2 ^ 20) h)
-
-  pub port_high : (a : PortNumber) → q ≡ Port a → 2 ^ 20 ≤ n → eqb (n - 2 ^ 20) a.0 ≡ names q n
-  port_high a e h = rw (e, le-ltb n (2 ^ 20) h)
-
-pub word_marked : (q : Place) (o : OldValues) → o.marks / 8 % 2 ≡ 1 → {t : Bool} → t ≡ names q o.place → t ≡ holds q o
-word_marked q o h {t} p = p ∙ ap (λ (b : Bool). cond b (names q o.place) false) (sym (eq-eqb (o.marks / 8 % 2) 1 h))
-
-pub no_word : (q : Place) (o : OldValues) → (o.marks / 8 % 2 ≡ 1 → ⊥) → false ≡ holds q o
-no_word q o h = ap (λ (b : Bool). cond b (names q o.place) false) (sym (ne_eqb (o.marks / 8 % 2) 1 h))
-
--- ---- a number that names a place is that place's, and no other's
+use Rattle.seeking.specs.Seeking.{names}
 
 pub names_where : (q : Place) (n : ℕ) → names q n ≡ true → where_of_number n ≡ where_of q
 names_where (Main a) n p = go (ltb n (2 ^ 20)) p

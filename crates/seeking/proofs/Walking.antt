@@ -10,39 +10,40 @@ use borrow.Author.Tests.{lt-ltb, le-ltb}
 use Rattle.machine.specs.declared.Place.{Place}
 use Rattle.trail.specs.declared.OldValues.{OldValues}
 use Rattle.trail.specs.declared.Newest.{Newest}
-use Rattle.trail.specs.declared.Newest.TheVariants as newest
+use Rattle.std.specs.Prelude.{Result, Ok, Err}
+use Rattle.trail.specs.declared.Broken.{Broken}
 use Rattle.trail.specs.Records.{marked, where_of_number}
-use Rattle.trail.specs.Newest.{fits, only_fitted, newest_fitted}
+use Rattle.trail.specs.Newest.{fits, only_fitted, newest_fitted, broken_record, read_back}
 use Rattle.trail.specs.Newest as trail_newest
 use Rattle.trail.proofs.NewestReadsBack.{newest_found, Fits}
-use Rattle.seeking.specs.declared.Sought.TheVariants.{Found, Never, CountTooLarge, Broken}
-use Rattle.seeking.specs.Seeking.{holds, by_newest, among, from_end, sought}
+use Rattle.seeking.specs.declared.SeekRefusal.TheVariants as refusal
+use Rattle.seeking.specs.Seeking.{found, never, holds, by_newest, among, from_end, sought}
 
 -- ---- fewer bytes stand before a record
 
-fitted_record : (main ports : ℕ) (r : Newest) (o : OldValues) (n : ℕ) → only_fitted main ports r ≡ newest.Record o n → r ≡ newest.Record o n
-fitted_record main ports newest.Broken o n p = p
-fitted_record main ports (newest.Record q m) o n p = go (marked 8 q.marks) (fits main ports (where_of_number q.place)) p
+fitted_record : (main ports : ℕ) (r : Result Newest Broken) (o : OldValues) (n : ℕ) → only_fitted main ports r ≡ read_back o n → r ≡ read_back o n
+fitted_record main ports (Err e) o n p = absurd (cc)
+fitted_record main ports (Ok q) o n p = go (marked 8 q.values.marks) (fits main ports (where_of_number q.values.place)) p
   where
-    go : (t u : Bool) → cond t (cond u (newest.Record q m) newest.Broken) (newest.Record q m) ≡ newest.Record o n → newest.Record q m ≡ newest.Record o n
+    go : (t u : Bool) → cond t (cond u (Ok q) broken_record) (Ok q) ≡ read_back o n → Ok q ≡ read_back o n
     go true true r = r
-    go true false r = let z : ◌≡◌ {A = ℕ} 0 1 = cc in absurd (omega arith)
+    go true false r = absurd (cc)
     go false u r = r
 
-pub shorter : (main ports : ℕ) (trail : List ℕ) (used : ℕ) (o : OldValues) (n : ℕ) → 0 < used → newest_fitted main ports trail used ≡ newest.Record o n → n < used
+pub shorter : (main ports : ℕ) (trail : List ℕ) (used : ℕ) (o : OldValues) (n : ℕ) → 0 < used → newest_fitted main ports trail used ≡ read_back o n → n < used
 unfolding newest_fitted
 shorter main ports trail used o n h p =
     let e = fitted_record main ports (trail_newest.newest (2 ^ 21) trail used) o n p in
     omega (arith, (newest_found true (2 ^ 21) trail used o n e).left)
 
 -- A record whose place is fitted is the newest.
-pub fitted_newest : (main ports : ℕ) (trail : List ℕ) (used : ℕ) (o : OldValues) (n : ℕ) → Fits main ports o → trail_newest.newest (2 ^ 21) trail used ≡ newest.Record o n
-    → newest_fitted main ports trail used ≡ newest.Record o n
+pub fitted_newest : (main ports : ℕ) (trail : List ℕ) (used : ℕ) (o : OldValues) (n : ℕ) → Fits main ports o → trail_newest.newest (2 ^ 21) trail used ≡ read_back o n
+    → newest_fitted main ports trail used ≡ read_back o n
 unfolding newest_fitted
 fitted_newest main ports trail used o n f p = ap (only_fitted main ports) p ∙ go (marked 8 o.marks) f
   where
     go : (t : Bool) → (t ≡ true → fits main ports (where_of_number o.place) ≡ true)
-        → cond t (cond (fits main ports (where_of_number o.place)) (newest.Record o n) newest.Broken) (newest.Record o n) ≡ newest.Record o n
+        → cond t (cond (fits main ports (where_of_number o.place)) (read_back o n) broken_record) (read_back o n) ≡ read_back o n
     go true e = rw (e refl)
     go false e = refl
 
@@ -61,13 +62,13 @@ module _ (main ports : ℕ) (trail : List ℕ) (q : Place) where
       go zero h g ih = refl
       go (suc n) h g ih = at (newest_fitted main ports trail (suc n)) refl
         where
-          at : (r : Newest) → newest_fitted main ports trail (suc n) ≡ r → by_newest q back r (λ m. among k main ports trail q (back + 1) m) ≡ by_newest q back r (λ m. among l main ports trail q (back + 1) m)
-          at newest.Broken p = refl
-          at (newest.Record o m) p =
-              let s = shorter main ports trail (suc n) o m (omega arith) p in
-              ap (cond (holds q o) (Found back o)) (ih m (omega arith) (omega arith))
+          at : (r : Result Newest Broken) → newest_fitted main ports trail (suc n) ≡ r → by_newest q back r (λ m. among k main ports trail q (back + 1) m) ≡ by_newest q back r (λ m. among l main ports trail q (back + 1) m)
+          at (Err x) p = refl
+          at (Ok r) p =
+              let s = shorter main ports trail (suc n) r.values r.left (omega arith) p in
+              ap (cond (holds q r.values) (found back r.values)) (ih r.left (omega arith) (omega arith))
 
-  pub none_of : (back : ℕ) → from_end main ports trail q back 0 ≡ Never
+  pub none_of : (back : ℕ) → from_end main ports trail q back 0 ≡ never
   unfolding from_end among
   none_of back = refl
 
@@ -76,26 +77,26 @@ module _ (main ports : ℕ) (trail : List ℕ) (q : Place) where
   one_more back zero h = absurd (omega arith)
   one_more back (suc n) h = at (newest_fitted main ports trail (suc n)) refl
     where
-      at : (r : Newest) → newest_fitted main ports trail (suc n) ≡ r → by_newest q back r (λ m. among n main ports trail q (back + 1) m) ≡ by_newest q back r (λ m. among m main ports trail q (back + 1) m)
-      at newest.Broken p = refl
-      at (newest.Record o m) p =
-          let s = shorter main ports trail (suc n) o m (omega arith) p in
-          ap (cond (holds q o) (Found back o)) (enough n m (back + 1) m (omega arith) (omega arith))
+      at : (r : Result Newest Broken) → newest_fitted main ports trail (suc n) ≡ r → by_newest q back r (λ m. among n main ports trail q (back + 1) m) ≡ by_newest q back r (λ m. among m main ports trail q (back + 1) m)
+      at (Err x) p = refl
+      at (Ok r) p =
+          let s = shorter main ports trail (suc n) r.values r.left (omega arith) p in
+          ap (cond (holds q r.values) (found back r.values)) (enough n r.left (back + 1) r.left (omega arith) (omega arith))
 
   -- By the newest: it is broken, it holds the place, or it does not.
-  pub broken_of : (back used : ℕ) → 0 < used → newest_fitted main ports trail used ≡ newest.Broken → from_end main ports trail q back used ≡ Broken
+  pub broken_of : (back used : ℕ) → 0 < used → newest_fitted main ports trail used ≡ broken_record → from_end main ports trail q back used ≡ Err refusal.Broken
   broken_of back used h p = one_more back used h ∙ rw p
 
-  pub here_of : (back used : ℕ) (o : OldValues) (n : ℕ) → 0 < used → newest_fitted main ports trail used ≡ newest.Record o n → holds q o ≡ true → from_end main ports trail q back used ≡ Found back o
-  here_of back used o n h p t = one_more back used h ∙ rw p (ap (λ (b : Bool). cond b (Found back o) (from_end main ports trail q (back + 1) n)) t)
+  pub here_of : (back used : ℕ) (o : OldValues) (n : ℕ) → 0 < used → newest_fitted main ports trail used ≡ read_back o n → holds q o ≡ true → from_end main ports trail q back used ≡ found back o
+  here_of back used o n h p t = one_more back used h ∙ rw p (ap (λ (b : Bool). cond b (found back o) (from_end main ports trail q (back + 1) n)) t)
 
-  pub older_of : (back used : ℕ) (o : OldValues) (n : ℕ) → 0 < used → newest_fitted main ports trail used ≡ newest.Record o n → holds q o ≡ false
+  pub older_of : (back used : ℕ) (o : OldValues) (n : ℕ) → 0 < used → newest_fitted main ports trail used ≡ read_back o n → holds q o ≡ false
       → from_end main ports trail q back used ≡ from_end main ports trail q (back + 1) n
-  older_of back used o n h p t = one_more back used h ∙ rw p (ap (λ (b : Bool). cond b (Found back o) (from_end main ports trail q (back + 1) n)) t)
+  older_of back used o n h p t = one_more back used h ∙ rw p (ap (λ (b : Bool). cond b (found back o) (from_end main ports trail q (back + 1) n)) t)
 
 -- ---- the loop
 
-pub too_large : (main ports : ℕ) (trail : List ℕ) (used : ℕ) (q : Place) → length trail < used → CountTooLarge ≡ sought main ports trail used q
+pub too_large : (main ports : ℕ) (trail : List ℕ) (used : ℕ) (q : Place) → length trail < used → sought main ports trail used q ≡ Err refusal.CountTooLarge
 unfolding sought
 too_large main ports trail used q h = rw (lt-ltb (length trail) used h)
 
@@ -110,17 +111,17 @@ unfolding sought
 starts main ports trail used q h = record { inside = h; few = omega arith; whole = rw (le-ltb (length trail) used h) }
 
 module _ {main ports : ℕ} {trail : List ℕ} {used : ℕ} {q : Place} {end back : ℕ} (g : Seeking main ports trail used q end back) where
-  pub ends : end ≤ 0 → Never ≡ sought main ports trail used q
+  pub ends : end ≤ 0 → never ≡ sought main ports trail used q
   ends h =
       let z : end ≡ 0 = omega arith in
       sym (g.whole ∙ ap (from_end main ports trail q (back + 1)) z ∙ none_of main ports trail q (back + 1))
 
-  module _ (h : 0 < end) {r : Newest} (p : r ≡ newest_fitted main ports trail end) where
-    pub stops : r ≡ newest.Broken → Broken ≡ sought main ports trail used q
-    stops e = sym (g.whole ∙ broken_of main ports trail q (back + 1) end h (sym p ∙ e))
+  module _ (h : 0 < end) {r : Result Newest Broken} (p : r ≡ newest_fitted main ports trail end) where
+    pub stops : {x : Broken} → r ≡ Err x → sought main ports trail used q ≡ Err refusal.Broken
+    stops e = g.whole ∙ broken_of main ports trail q (back + 1) end h (sym p ∙ e)
 
-    module _ {o : OldValues} {n : ℕ} (e : r ≡ newest.Record o n) {t : Bool} (f : t ≡ holds q o) where
-      pub finds : t ≡ true → Found (back + 1) o ≡ sought main ports trail used q
+    module _ {o : OldValues} {n : ℕ} (e : r ≡ read_back o n) {t : Bool} (f : t ≡ holds q o) where
+      pub finds : t ≡ true → found (back + 1) o ≡ sought main ports trail used q
       finds y = sym (g.whole ∙ here_of main ports trail q (back + 1) end o n h (sym p ∙ e) (sym f ∙ y))
 
       pub goes_on : t ≡ false → Seeking main ports trail used q n (back + 1) × (n < end)

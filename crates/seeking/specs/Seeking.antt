@@ -1,15 +1,16 @@
 -- Document 02, W7: the newest record that holds a place, sought from the end of the bytes in use, and how many operations back it is.
 -- Assumes nothing.
-use Rattle.std.specs.Prelude.{ℕ, zero, suc, ◌+◌, ◌-◌, ◌^◌, Bool, true, false, cond, ◌≡◌, List, [], ◌∷◌, ◌++◌, ltb, eqb, length}
+use Rattle.std.specs.Prelude.{ℕ, zero, suc, ◌+◌, ◌-◌, ◌^◌, Bool, true, false, cond, ◌≡◌, List, [], ◌∷◌, ◌++◌, ltb, eqb, length, Result, Ok, Err, Option, Some, None}
 use Rattle.machine.specs.declared.Place.{Place}
 use Rattle.machine.specs.declared.Place.TheVariants.{Main, Port}
 use Rattle.trail.specs.declared.OldValues.{OldValues}
 use Rattle.trail.specs.declared.Newest.{Newest}
-use Rattle.trail.specs.declared.Newest.TheVariants as newest
+use Rattle.trail.specs.declared.Broken.{Broken}
 use Rattle.trail.specs.Records.{marked}
 use Rattle.trail.specs.Newest.{newest_fitted}
-use Rattle.seeking.specs.declared.Sought.{Sought}
-use Rattle.seeking.specs.declared.Sought.TheVariants.{Found, Never, CountTooLarge, Broken}
+use Rattle.seeking.specs.declared.Hit.{Hit}
+use Rattle.seeking.specs.declared.SeekRefusal.{SeekRefusal}
+use Rattle.seeking.specs.declared.SeekRefusal.TheVariants as refusal
 
 -- ---- a record that holds a place
 
@@ -24,19 +25,29 @@ holds q o = cond (marked 8 o.marks) (names q o.place) false
 
 -- ---- the walk
 
+-- What is answered: a record that holds the place, that none does, or a refusal.
+abbrev pub Sought : Type 0
+Sought = Result (Option Hit) SeekRefusal
+
+abbrev pub found : ℕ → OldValues → Sought
+found back o = Ok (Some (record { back = back; values = o }))
+
+abbrev pub never : Sought
+never = Ok None
+
 -- By the newest record, `back` operations back: it is broken, it holds the place, or those before it are asked.
-abbrev pub by_newest : Place → ℕ → Newest → (ℕ → Sought) → Sought
-by_newest q back newest.Broken older = Broken
-by_newest q back (newest.Record o n) older = cond (holds q o) (Found back o) (older n)
+abbrev pub by_newest : Place → ℕ → Result Newest Broken → (ℕ → Sought) → Sought
+by_newest q back (Err e) older = Err refusal.Broken
+by_newest q back (Ok r) older = cond (holds q r.values) (found back r.values) (older r.left)
 
 -- No record where there is no byte.
 abbrev pub if_any : ℕ → Sought → Sought
-if_any zero r = Never
+if_any zero r = never
 if_any (suc n) r = r
 
 -- Among the newest k records of the first `used` bytes, of which the newest is `back` operations back.
 unfoldable pub among : ℕ → ℕ → ℕ → List ℕ → Place → ℕ → ℕ → Sought
-among zero main ports trail q back used = Never
+among zero main ports trail q back used = never
 among (suc k) main ports trail q back used =
     if_any used (by_newest q back (newest_fitted main ports trail used) (λ n. among k main ports trail q (back + 1) n))
 
@@ -48,14 +59,14 @@ from_end main ports trail q back used = among used main ports trail q back used
 
 -- The newest record is 1 back. Refusal 3 before all.
 unfoldable pub sought : ℕ → ℕ → List ℕ → ℕ → Place → Sought
-sought main ports trail used q = cond (ltb (length trail) used) CountTooLarge (from_end main ports trail q 1 used)
+sought main ports trail used q = cond (ltb (length trail) used) (Err refusal.CountTooLarge) (from_end main ports trail q 1 used)
 
 -- ---- all records, decoded: the newest first in the list
 
 -- The newest that holds the place, where the first of the list is `back` operations back.
 abbrev pub pick : Place → ℕ → List OldValues → Sought
-pick q back [] = Never
-pick q back (o ∷ os) = cond (holds q o) (Found back o) (pick q (back + 1) os)
+pick q back [] = never
+pick q back (o ∷ os) = cond (holds q o) (found back o) (pick q (back + 1) os)
 
 -- None of them holds the place.
 abbrev pub NoneHolds : Place → List OldValues → Type 0

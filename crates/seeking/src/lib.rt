@@ -6,72 +6,74 @@ ghost use Rattle.seeking.specs.Seeking.{names as names_of, holds as holds_of, so
 
 use machine::Place;
 use reading::newest;
-use trail::{FIRST_PORT, Newest, OldValues};
+use trail::places::place_of_number;
+use trail::{Broken, OldValues};
 
-// What was found: how many operations back, the newest record being 1, and the record's old values; no record holds the place; or refused: the count
-// in use is larger than the trail (3), or a record is broken before any that holds the place (8).
-#[derive(Clone, Copy)]
-pub enum Sought {
-    Found(usize, OldValues),
-    Never,
-    CountTooLarge,
-    Broken,
+// A record that holds the place: how many operations back it is, the newest record being 1, and its old values.
+#[derive(Clone, Copy, Debug, PartialEq, Eq)]
+pub struct Hit {
+    pub back: usize,
+    pub values: OldValues,
+}
+
+// Why a place was not sought to the end: the count in use is larger than the trail, or a record is broken before any that holds the place.
+#[derive(Clone, Copy, Debug, PartialEq, Eq)]
+pub enum SeekRefusal {
+    CountTooLarge = 3,
+    Broken = 8,
+}
+
+impl From<Broken> for SeekRefusal {
+    ghost use Rattle.std.specs.Prelude.{◌≡◌};
+    ghost use Rattle.seeking.specs.declared.SeekRefusal.TheVariants as refusal;
+
+    ghost from_gives = { λ _ e. e ≡ refusal.Broken };
+
+    fn from(_e: Broken) -> SeekRefusal {
+        SeekRefusal::Broken
+    }
 }
 
 // Whether the number of a record's place is that of this place. An address of 2^20 or more is no number of a main word.
 fn names(place: Place, number: u32) -> bool
     ensures { result ≡ names_of place number }
 {
-    match place {
-        Place::Main(a) => {
-            if number < FIRST_PORT {
-                return number == a.0;
-            }
-            return false;
-        }
-        Place::Port(a) => {
-            if number >= FIRST_PORT {
-                return number - FIRST_PORT == a.0;
-            }
-            return false;
-        }
-    }
+    place_of_number(number) == place
 }
 
 // Whether a record holds the place: it marks a word, and that one.
 fn holds(place: Place, o: OldValues) -> bool
     ensures { result ≡ holds_of place o }
 {
-    if o.marks / 8 % 2 == 1 {
-        return names(place, o.place);
-    }
-    false
+    o.marks / 8 % 2 == 1 && names(place, o.place)
 }
 
-// The newest record that holds the place, in a trail of which `used` bytes are in use, beside stores of these lengths.
+// The newest record that holds the place, if one does, in a trail of which `used` bytes are in use, beside stores of these lengths.
+// The walk goes from where a record begins to where the one before it does, so no range and no iterator of std gives its places.
 pub fn find(
     main_words: usize,
     ports_words: usize,
     trail: &[u8],
     used: usize,
     place: Place,
-) -> Sought
+) -> Result<Option<Hit>, SeekRefusal>
     ensures { result ≡ sought main_words ports_words trail.now used place }
 {
     if used > trail.len() {
-        return Sought::CountTooLarge;
+        return Err(SeekRefusal::CountTooLarge);
     }
     let mut end = used;
     let mut back = 0usize;
     while end > 0 {
-        let Newest::Record(o, left) = newest(trail, end, main_words, ports_words) else {
-            return Sought::Broken;
-        };
+        let record = newest(trail, end, main_words, ports_words)?;
         back += 1;
-        if holds(place, o) {
-            return Sought::Found(back, o);
+        if holds(place, record.values) {
+            return Ok(Some(Hit {
+                back,
+                values: record.values,
+            }));
         }
-        end = left;
+        end = record.left;
     }
-    Sought::Never
+    Ok(None)
 }
