@@ -6,30 +6,27 @@ use mathlib.Core.Path.{◌≡◌, refl, sym, ap, ◌∙◌, subst}
 use mathlib.Core.Bool.{Bool, true, false, cond, ◌&&◌, ◌||◌, true≢false, false≢true}
 use mathlib.Core.Logic.{◌↔◌}
 use mathlib.Core.List.{List, []}
+use Prim.{tt}
 use Prim.Native.Nat.{ℕ, suc, ◌+◌, ◌^◌, ◌<◌, ◌≤◌}
 use native.Mathlib.Omega.{arith}
 use lib.Dec.{eqb, ltb}
 use lib.ListN.{length, take, drop, length-take, length-drop}
 use borrow.Author.Tests.{leb-true, lt-leb, le-ltb}
+use Rattle.std.specs.Prelude.{Result, Ok, Err}
 use Rattle.report.proofs.Bits.{by_le}
 use Rattle.machine.specs.declared.Place.{Place}
 use Rattle.machine.specs.declared.Place.TheVariants.{Main, Port}
 use Rattle.viper.specs.declared.Refusal.{Refusal}
 use Rattle.viper.specs.declared.Refusal.TheVariants.{PTooLarge, StoreTooLong, CountTooLarge, Stopped, Unfitted, TrailFull, NothingInUse, BrokenRecord}
-use Rattle.viper.specs.declared.Answer.{Answer}
-use Rattle.viper.specs.declared.Answer.TheVariants.{Done, Refused}
-use Rattle.viper.specs.declared.Outcome.{Outcome}
-use Rattle.viper.specs.declared.RunOutcome.{RunOutcome}
-use Rattle.viper.specs.Refusals.{number, when, or_else, lowest}
-use Rattle.viper.specs.Operations as operations
-use Rattle.viper.specs.Operations.{Bench, Operation, Call, operate, run, back, lends_stores, applies, answer, outcome}
-use Rattle.viper.specs.Runs as runs
-use Rattle.viper.specs.Runs.{run_by, run_outcome}
+use Rattle.viper.specs.declared.After.{After}
+use Rattle.viper.specs.declared.Ran.{Ran}
+use Rattle.viper.specs.Refusals.{Answer, number, when, or_else, lowest}
+use Rattle.viper.specs.Operations.{Bench, Operation, Call, operate, run, back, lends_stores, applies, answer, Outcome, outcome}
+use Rattle.viper.specs.Runs.{RunOutcome, run_by, run_outcome}
 use Rattle.viper.specs.TakingBack.{back_outcome}
-use Rattle.viper.specs.Told.{bench, told, run_told}
 use Rattle.step.specs.Lawful.{Lawful}
 use Rattle.viper.specs.Views.{stretch, stretch_fitted, viewed, view_fitted}
-use Rattle.demands.specs.Histories.{accepted_or_refused, answered, called}
+use Rattle.demands.specs.Histories.{accepted_or_refused, answered, called, told_from, run_told_from}
 
 -- ---- the numbers
 
@@ -76,8 +73,8 @@ abbrev Clear : (Refusal → Bool) → ℕ → Type 0
 Clear f n = (q : Refusal) → number q < n → f q ≡ false
 
 abbrev Right : (Refusal → Bool) → Answer → Type 0
-Right f Done = (r : Refusal) → f r ≡ false
-Right f (Refused r) = (f r ≡ true) × Clear f (number r)
+Right f (Ok u) = (r : Refusal) → f r ≡ false
+Right f (Err r) = (f r ≡ true) × Clear f (number r)
 
 clear_next : (f : Refusal → Bool) (r : Refusal) → Clear f (number r) → f r ≡ false → Clear f (suc (number r))
 clear_next f r c e q h = by_le (number r) (number q) (λ k. ap f (distinct q r (omega arith)) ∙ e) (λ k. c q k)
@@ -110,16 +107,16 @@ right f =
 both : (t : Bool) → t ≡ true → t ≡ false → ⊥
 both t h k = true≢false (sym h ∙ k)
 
-refused_is : (f : Refusal → Bool) (a : Answer) (r : Refusal) → Right f a → f r ≡ true → Clear f (number r) → a ≡ Refused r
-refused_is f Done r k h c = absurd (both (f r) h (k r))
-refused_is f (Refused q) r k h c =
+refused_is : (f : Refusal → Bool) (a : Answer) (r : Refusal) → Right f a → f r ≡ true → Clear f (number r) → a ≡ Err r
+refused_is f (Ok u) r k h c = absurd (both (f r) h (k r))
+refused_is f (Err q) r k h c =
     by_le (number r) (number q)
-    (λ l. by_le (number q) (number r) (λ g. ap Refused (distinct q r (omega arith))) (λ g. absurd (both (f r) h (k.1 r g))))
+    (λ l. by_le (number q) (number r) (λ g. ap (λ (x : Refusal). Err x) (distinct q r (omega arith))) (λ g. absurd (both (f r) h (k.1 r g))))
     (λ l. absurd (both (f q) k.0 (c q l)))
 
-done_is : (f : Refusal → Bool) (a : Answer) → Right f a → ((r : Refusal) → f r ≡ false) → a ≡ Done
-done_is f Done k h = refl
-done_is f (Refused q) k h = absurd (both (f q) k.0 (h q))
+done_is : (f : Refusal → Bool) (a : Answer) → Right f a → ((r : Refusal) → f r ≡ false) → a ≡ Ok tt
+done_is f (Ok u) k h = refl
+done_is f (Err q) k h = absurd (both (f q) k.0 (h q))
 
 -- ---- per call
 
@@ -130,27 +127,27 @@ pub record Lowest (c : Call) (b : Bench) (r : Refusal) : Type 0 where
 
 -- What the first demand asks of a call c that was given the bench b, answered a and left the bench b'.
 pub record Judged (c : Call) (b : Bench) (a : Answer) (b' : Bench) : Type 0 where
-  pub refused : (r : Refusal) → (a ≡ Refused r) ↔ Lowest c b r
-  pub accepted : (a ≡ Done) ↔ ((r : Refusal) → applies c b r ≡ false)
-  pub unchanged : (r : Refusal) → a ≡ Refused r → b' ≡ b
+  pub refused : (r : Refusal) → (a ≡ Err r) ↔ Lowest c b r
+  pub accepted : (a ≡ Ok tt) ↔ ((r : Refusal) → applies c b r ≡ false)
+  pub unchanged : (r : Refusal) → a ≡ Err r → b' ≡ b
 
 answered_is : (c : Call) (b : Bench) → answered c b ≡ answer c b
 answered_is (operate e) b = refl
 answered_is (run n) b = go (answer (run n) b)
   where
     go : (a : Answer) → accepted_or_refused (run_by a n b).answered ≡ a
-    go Done = refl
-    go (Refused r) = refl
+    go (Ok u) = refl
+    go (Err r) = refl
 answered_is back b = refl
 
 -- Nothing of the bench is touched where a refusal is answered.
-refused_leaves : (c : Call) (b : Bench) (r : Refusal) → answer c b ≡ Refused r → called c b ≡ b
+refused_leaves : (c : Call) (b : Bench) (r : Refusal) → answer c b ≡ Err r → called c b ≡ b
 refused_leaves (operate e) b r h = rw h
 refused_leaves (run n) b r h = ap (λ (a : Answer). (run_by a n b).bench) h
 refused_leaves back b r h = rw h
 
 -- A call answers r exactly if r applies and no refusal of a lower number does,
-pub refused_lowest : (c : Call) (b : Bench) (r : Refusal) → (answered c b ≡ Refused r) ↔ Lowest c b r
+pub refused_lowest : (c : Call) (b : Bench) (r : Refusal) → (answered c b ≡ Err r) ↔ Lowest c b r
 unfolding answer
 refused_lowest c b r =
     let k = right (applies c b) in (
@@ -159,7 +156,7 @@ refused_lowest c b r =
     )
 
 -- and is accepted exactly if none applies.
-pub accepted_none : (c : Call) (b : Bench) → (answered c b ≡ Done) ↔ ((r : Refusal) → applies c b r ≡ false)
+pub accepted_none : (c : Call) (b : Bench) → (answered c b ≡ Ok tt) ↔ ((r : Refusal) → applies c b r ≡ false)
 unfolding answer
 accepted_none c b =
     let k = right (applies c b) in (
@@ -187,7 +184,7 @@ lawful_passes c b l NothingInUse h = absurd (omega arith)
 lawful_passes c b l BrokenRecord h = absurd (omega arith)
 
 -- A run is refused only by 1, 2 and 3.
-pub run_refused_by : (n : ℕ) (b : Bench) (r : Refusal) → answered (run n) b ≡ Refused r → number r ≤ 3
+pub run_refused_by : (n : ℕ) (b : Bench) (r : Refusal) → answered (run n) b ≡ Err r → number r ≤ 3
 run_refused_by n b r h = go r ((refused_lowest (run n) b r).0 h).itself
   where
     go : (q : Refusal) → applies (run n) b q ≡ true → number q ≤ 3
@@ -239,16 +236,16 @@ first_demand c b =
     }
 
 -- and of the calls themselves, by their contracts: step, reset, force and set,
-pub operation_judged : (e : Operation) (b : Bench) (r : Outcome) (main ports trail : List ℕ) → told r main ports trail ≡ outcome e b
-    → Judged (operate e) b r.answer (bench r.machine main ports trail r.used)
-operation_judged e b r main ports trail h = subst (λ (o : operations.Outcome). Judged (operate e) b o.answered o.bench) (sym h) (first_demand (operate e) b)
+pub operation_judged : (e : Operation) (b : Bench) (r : Result After Refusal) (main ports trail : List ℕ) → told_from b r main ports trail ≡ outcome e b
+    → Judged (operate e) b (told_from b r main ports trail).answered (told_from b r main ports trail).bench
+operation_judged e b r main ports trail h = subst (λ (o : Outcome). Judged (operate e) b o.answered o.bench) (sym h) (first_demand (operate e) b)
 
 -- run,
-pub run_judged : (n : ℕ) (b : Bench) (r : RunOutcome) (main ports trail : List ℕ) → run_told r main ports trail ≡ run_outcome n b
-    → Judged (run n) b (accepted_or_refused r.answer) (bench r.machine main ports trail r.used)
-run_judged n b r main ports trail h = subst (λ (o : runs.RunOutcome). Judged (run n) b (accepted_or_refused o.answered) o.bench) (sym h) (first_demand (run n) b)
+pub run_judged : (n : ℕ) (b : Bench) (r : Result Ran Refusal) (main ports trail : List ℕ) → run_told_from b r main ports trail ≡ run_outcome n b
+    → Judged (run n) b (accepted_or_refused (run_told_from b r main ports trail).answered) (run_told_from b r main ports trail).bench
+run_judged n b r main ports trail h = subst (λ (o : RunOutcome). Judged (run n) b (accepted_or_refused o.answered) o.bench) (sym h) (first_demand (run n) b)
 
 -- and take back.
-pub back_judged : (b : Bench) (r : Outcome) (main ports trail : List ℕ) → told r main ports trail ≡ back_outcome b
-    → Judged back b r.answer (bench r.machine main ports trail r.used)
-back_judged b r main ports trail h = subst (λ (o : operations.Outcome). Judged back b o.answered o.bench) (sym h) (first_demand back b)
+pub back_judged : (b : Bench) (r : Result After Refusal) (main ports trail : List ℕ) → told_from b r main ports trail ≡ back_outcome b
+    → Judged back b (told_from b r main ports trail).answered (told_from b r main ports trail).bench
+back_judged b r main ports trail h = subst (λ (o : Outcome). Judged back b o.answered o.bench) (sym h) (first_demand back b)

@@ -13,6 +13,8 @@ use lib.Dec.{eqb}
 use lib.ListN.{length, get_or, take, drop, length-append, length-take, get_or-append}
 use lib.Seq.{get_or-take, get_or-drop, get_or-append-add}
 use borrow.Author.Tests.{not-false, le-ltb}
+use Prim.{tt}
+use Rattle.std.specs.Prelude.{Result, Ok, Err}
 use Rattle.report.specs.AnnexA.{Mem, BV}
 use Rattle.report.specs.Section3.{State, Triple, NEXT}
 use Rattle.report.specs.Parts.{Where, fitted, word_at, msf, dsf, fsf, addr, of, shift, input, address, unless, place_by, operand, Part, stopped, halts, compares, writes, skips, computes, part, word, part_by, after_by, placed, reads_by, writes_by, reads, written, InRange}
@@ -20,21 +22,19 @@ use Rattle.report.proofs.Order.{stays, next_by_parts}
 use Rattle.machine.specs.Held.{ram, state, machine_of}
 use Rattle.machine.specs.declared.Machine.{Machine}
 use Rattle.trail.specs.Records.{Good, differs, word_changed, changed_word, record_bytes, old_values_of, restored, put}
-use Rattle.trail.specs.Newest.{newest_fitted}
+use Rattle.trail.specs.Newest.{read_back, newest_fitted}
 use Rattle.trail.specs.declared.OldValues.{OldValues}
-use Rattle.trail.specs.declared.Newest.TheVariants.{Record}
 use Rattle.trail.proofs.Marks.{bit}
 use Rattle.trail.proofs.Lengths.{registers_changed, registers_three, unchanged}
 use Rattle.trail.proofs.RecordRestores.{Touched}
 use Rattle.trail.proofs.NewestReadsBack.{newest_fitted_added, record_injective, newest_fitted_stands}
 use Rattle.viper.specs.declared.Refusal.{Refusal}
 use Rattle.viper.specs.declared.Refusal.TheVariants.{PTooLarge, StoreTooLong, CountTooLarge, Stopped, Unfitted, TrailFull, NothingInUse, BrokenRecord}
-use Rattle.viper.specs.declared.Answer.TheVariants.{Done, Refused}
-use Rattle.viper.specs.declared.Outcome.{Outcome}
+use Rattle.viper.specs.declared.After.{After}
+use Rattle.viper.specs.Refusals.{Answer}
 use Rattle.viper.specs.Told.{bench, told}
-use Rattle.viper.specs.Operations as operations
 use Rattle.step.specs.Phases.{lacks, step_unfitted}
-use Rattle.viper.specs.Operations.{Bench, Operation, step, reset, force, set_word, operate, next, kind_of, writes_at, record_for, unfitted, applies, outcome}
+use Rattle.viper.specs.Operations.{Bench, Operation, step, reset, force, set_word, operate, next, kind_of, writes_at, record_for, unfitted, applies, Outcome, outcome}
 use Rattle.demands.specs.Histories.{Valid}
 use Rattle.demands.proofs.FirstDemand.{LawfulBench, lawful_passes, refused_lowest, accepted_none}
 use Rattle.demands.proofs.Undoing.{nothing_lacks, touched, undoes}
@@ -130,7 +130,7 @@ writes_nowhere_else s ok f = touched step s ok ((unfitted_or_not s).1 f)
 pub record ReadsBack (e : Operation) (s : State) : Type 0 where
   pub newest : (before beyond : List ℕ)
       → newest_fitted (length (next e s).0.main) (length (next e s).0.ports) (before ++ (record_for e s ++ beyond)) (length before + length (record_for e s))
-      ≡ Record (old_values_of (kind_of e) s (next e s) (writes_at e s)) (length before)
+      ≡ read_back (old_values_of (kind_of e) s (next e s) (writes_at e s)) (length before)
   pub back : restored (old_values_of (kind_of e) s (next e s) (writes_at e s)) (next e s) ≡ s
 
 -- So does the record of every operation that is fitted, on a valid machine.
@@ -145,7 +145,7 @@ one_reading g k e = record_injective (omega arith) g k e
 
 -- And one spelling: bytes in use that read as old values o end in exactly the record of o.
 pub one_spelling : (main ports : ℕ) (trail : List ℕ) (used : ℕ) {o : OldValues} {n : ℕ} → 0 < used → used ≤ length trail
-    → newest_fitted main ports trail used ≡ Record o n → take used trail ≡ take n trail ++ record_bytes o
+    → newest_fitted main ports trail used ≡ read_back o n → take used trail ≡ take n trail ++ record_bytes o
 one_spelling main ports trail used h l e = (newest_fitted_stands main ports h l e).0.bytes
 
 -- ---- how long records are
@@ -229,7 +229,7 @@ past_it trail used r i h k =
 -- ---- STOP is set
 
 -- The report keeps the state, and the call answers 4 and leaves the bench.
-pub stopped_keeps : (b : Bench) → LawfulBench b → b.state.6 ≡ true → (NEXT b.state ≡ b.state) × (outcome step b ≡ record { answered = Refused Stopped; bench = b })
+pub stopped_keeps : (b : Bench) → LawfulBench b → b.state.6 ≡ true → (NEXT b.state ≡ b.state) × (outcome step b ≡ record { answered = Err Stopped; bench = b })
 unfolding part_by after_by
 stopped_keeps b l h =
     let s = b.state in
@@ -237,6 +237,9 @@ stopped_keeps b l h =
     (rw h (stays s.0 s.1 s.2 s.3 s.4 s.5), rw a)
 
 -- ---- THE STEP
+
+refused_not_done : (q : Refusal) → ◌≡◌ {A = Answer} (Err q) (Ok tt) → ⊥
+refused_not_done q e = let z : ◌≡◌ {A = ℕ} 0 1 = cc in absurd (omega arith)
 
 -- P, both stores and the count in use are lawful, STOP is clear, each word that the step touches is fitted, and the trail has room for its record.
 pub record CanStep (b : Bench) : Type 0 where
@@ -259,7 +262,7 @@ none_applies b k BrokenRecord = refl
 pub step_is_next : (b : Bench) → CanStep b
     → outcome step b
     ≡ record {
-      answered = Done;
+      answered = Ok tt;
       bench =
           record {
             state = NEXT b.state;
@@ -269,18 +272,23 @@ pub step_is_next : (b : Bench) → CanStep b
     }
 step_is_next b k = rw ((accepted_none (operate step) b).1 (none_applies b k))
 
--- So of the call itself, by its contract: the machine it hands back with the stores it leaves is NEXT's state.
-pub step_call_is_next : (m : Machine) (main ports trail : List ℕ) (used : ℕ) (r : Outcome) (main' ports' trail' : List ℕ)
+-- So of the call itself, by its contract: it is not refused, and the machine it hands back with the stores it leaves is NEXT's state.
+pub step_call_is_next : (m : Machine) (main ports trail : List ℕ) (used : ℕ) (r : Result After Refusal) (main' ports' trail' : List ℕ)
     → CanStep (bench m main ports trail used)
-    → told r main' ports' trail' ≡ outcome step (bench m main ports trail used)
-    → (r.answer ≡ Done)
-    × (state r.machine (ram main' ports') ≡ NEXT (state m (ram main ports)))
+    → told r m used main' ports' trail' ≡ outcome step (bench m main ports trail used)
+    → (a : After)
+    × (r ≡ Ok a)
+    × (state a.machine (ram main' ports') ≡ NEXT (state m (ram main ports)))
     × (trail' ≡ put trail used (record_for step (state m (ram main ports))))
-    × (r.used ≡ used + length (record_for step (state m (ram main ports))))
-step_call_is_next m main ports trail used r main' ports' trail' k h =
+    × (a.used ≡ used + length (record_for step (state m (ram main ports))))
+step_call_is_next m main ports trail used (Ok a) main' ports' trail' k h =
     let e = h ∙ step_is_next (bench m main ports trail used) k in (
-      ap (λ (o : operations.Outcome). o.answered) e,
-      ap (λ (o : operations.Outcome). o.bench.state) e,
-      ap (λ (o : operations.Outcome). o.bench.trail) e,
-      ap (λ (o : operations.Outcome). o.bench.used) e,
+      a,
+      refl,
+      ap (λ (o : Outcome). o.bench.state) e,
+      ap (λ (o : Outcome). o.bench.trail) e,
+      ap (λ (o : Outcome). o.bench.used) e,
     )
+step_call_is_next m main ports trail used (Err q) main' ports' trail' k h =
+    let e = ap (λ (o : Outcome). o.answered) (h ∙ step_is_next (bench m main ports trail used) k) in
+    absurd (refused_not_done q e)

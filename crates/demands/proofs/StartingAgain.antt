@@ -12,7 +12,7 @@ use Rattle.demands.proofs.ThirdDemand.{valid_now, kept_session, session_history}
 
 -- What starts it again keeps the bench valid and its sizes, and leaves no byte of the trail in use.
 again_valid : {b next : Bench} → Valid b.state → StartsAgain b next → Valid next.state
-again_valid {b} ok (imports text main r h a) =
+again_valid {b} ok (imports text main used h) =
     record {
       range =
           record {
@@ -28,10 +28,10 @@ again_valid {b} ok (imports text main r h a) =
     }
 
 again_empty : {b next : Bench} → StartsAgain b next → next.used ≡ 0
-again_empty (imports text main r h a) = accepted_starts_again h a
+again_empty (imports text main used h) = accepted_starts_again h
 
 pub again_sizes : {b next : Bench} → StartsAgain b next → Sizes b next
-again_sizes (imports text main r h a) = record { main = imported_length h; ports = refl; trail = refl }
+again_sizes (imports text main used h) = record { main = imported_length h; ports = refl; trail = refl }
 
 module _ (b₀ : Bench) (ok : Valid b₀.state) (z : b₀.used ≡ 0) where
   -- Every history begins as document 01 asks: with a valid machine, stores of lawful size and an empty trail.

@@ -4,6 +4,8 @@
 use mathlib.Core.Path.{◌≡◌, refl, sym, ap, ◌∙◌, subst}
 use mathlib.Core.Bool.{Bool, true, false, cond}
 use mathlib.Core.List.{List, [], ◌∷◌, ◌++◌}
+use Prim.{tt}
+use Rattle.std.specs.Prelude.{Result, Ok, Err}
 use Prim.Native.Nat.{ℕ, zero, suc, ◌+◌, ◌-◌, ◌<◌, ◌≤◌}
 use native.Mathlib.Omega.{arith}
 use lib.ListN.{length, take, replicate, length-append}
@@ -15,20 +17,21 @@ use Rattle.machine.specs.Held.{machine_of}
 use Rattle.machine.specs.declared.Ending.TheVariants as ending
 use Rattle.trail.specs.declared.OldValues.{OldValues}
 use Rattle.trail.specs.Records.{marked, where_of_number, old_values_of, restored}
+use Rattle.trail.specs.Newest.{read_back}
 use Rattle.trail.specs.declared.Newest.{Newest}
-use Rattle.trail.specs.declared.Newest.TheVariants.{Record, Broken}
+use Rattle.trail.specs.declared.Broken.{Broken}
 use Rattle.trail.proofs.Adding.{put_length, put_in_use}
 use Rattle.trail.proofs.NewestReadsBack.{newest_in_use}
 use Rattle.trail.proofs.RecordRestores.{main_kept, ports_kept}
 use Rattle.viper.specs.declared.Refusal.{Refusal}
 use Rattle.viper.specs.declared.Refusal.TheVariants.{PTooLarge, StoreTooLong, CountTooLarge, Stopped, Unfitted, TrailFull, NothingInUse, BrokenRecord}
-use Rattle.viper.specs.declared.Answer.{Answer}
-use Rattle.viper.specs.declared.Answer.TheVariants.{Done, Refused}
-use Rattle.viper.specs.Refusals.{number, if_done}
+use Rattle.viper.specs.declared.After.{After}
+use Rattle.viper.specs.declared.Ran as code
+use Rattle.viper.specs.Refusals.{Answer, number, if_done}
 use Rattle.viper.specs.Operations.{Bench, Operation, step, Call, operate, run, back, next, kind_of, writes_at, record_for, unfitted, broken, newest_of, applies, answer, done, Outcome, outcome}
-use Rattle.viper.specs.Runs.{Ran, ends, stepped, unless_stopped, over_and_over, RunOutcome, run_by, run_outcome}
+use Rattle.viper.specs.Runs.{Ran, ends, stepped, unless_stopped, over_and_over, RunAnswer, RunOutcome, run_by, run_outcome}
 use Rattle.viper.specs.TakingBack.{put_back, back_outcome}
-use Rattle.demands.specs.Histories.{Valid, Typed, TypedCalls, answered, called, after, noted, noted_run, struck, back_by, listing, listed_from, listed, through, trace, Sizes, History, Session, begins, operates, runs, takes_back}
+use Rattle.demands.specs.Histories.{Valid, Typed, TypedCalls, told_from, run_told_from, answered, called, after, noted, noted_run, struck, back_by, listing, listed_from, listed, through, trace, Sizes, History, Session, begins, operates, runs, takes_back}
 use Rattle.demands.proofs.FirstDemand.{LawfulBench, lawful_passes, refused_lowest, accepted_none}
 use Rattle.demands.proofs.Undoing.{touched, touched_sizes, stays_valid, undoes, some_bytes}
 
@@ -56,7 +59,7 @@ kept_start b₀ z =
     }
 
 -- what an accepted operation met
-accepted : (e : Operation) (b : Bench) → answer (operate e) b ≡ Done → (unfitted (operate e) b.state ≡ false) × (b.used + length (record_for e b.state) ≤ length b.trail)
+accepted : (e : Operation) (b : Bench) → answer (operate e) b ≡ Ok tt → (unfitted (operate e) b.state ≡ false) × (b.used + length (record_for e b.state) ≤ length b.trail)
 accepted e b h =
     let n = (accepted_none (operate e) b).0 h in
     let free = ltb-false (length b.trail - b.used) (length (record_for e b.state)) (n TrailFull) in
@@ -97,7 +100,7 @@ same_sizes b = record { main = refl; ports = refl; trail = refl }
 then_sizes : {b₁ b₂ b₃ : Bench} → Sizes b₁ b₂ → Sizes b₂ b₃ → Sizes b₁ b₃
 then_sizes h k = record { main = k.main ∙ h.main; ports = k.ports ∙ h.ports; trail = k.trail ∙ h.trail }
 
-done_sizes : (e : Operation) (b : Bench) → Valid b.state → answer (operate e) b ≡ Done → Sizes b (done e b)
+done_sizes : (e : Operation) (b : Bench) → Valid b.state → answer (operate e) b ≡ Ok tt → Sizes b (done e b)
 done_sizes e b ok a =
     let g = accepted e b a in
     let z = touched_sizes (touched e b.state ok g.0) in
@@ -107,8 +110,8 @@ operation_sizes : (e : Operation) (b : Bench) → Valid b.state → Sizes b (out
 operation_sizes e b ok = go (answer (operate e) b) refl
   where
     go : (a : Answer) → answer (operate e) b ≡ a → Sizes b (if_done a (done e b) b)
-    go Done h = done_sizes e b ok h
-    go (Refused r) h = same_sizes b
+    go (Ok u) h = done_sizes e b ok h
+    go (Err r) h = same_sizes b
 
 steps_sizes : (n : ℕ) (b : Bench) → Valid b.state → Sizes b (over_and_over n b).bench
 unfolding over_and_over
@@ -124,15 +127,15 @@ steps_sizes (suc n) b ok = go b.state.6 (answer (operate step) b) refl (λ v. st
 
     go : (t : Bool) (a : Answer) → answer (operate step) b ≡ a → (Valid (done step b).state → Sizes (done step b) rest.bench) → Sizes b (unless_stopped t b (stepped a b rest)).bench
     go true a h ih = same_sizes b
-    go false Done h ih = then_sizes (done_sizes step b ok h) (ih (stays_valid step b.state tt ok (accepted step b h).0))
-    go false (Refused r) h ih = same_sizes b
+    go false (Ok u) h ih = then_sizes (done_sizes step b ok h) (ih (stays_valid step b.state tt ok (accepted step b h).0))
+    go false (Err r) h ih = same_sizes b
 
 run_sizes : (n : ℕ) (b : Bench) → Valid b.state → Sizes b (run_outcome n b).bench
 run_sizes n b ok = go (answer (run n) b)
   where
     go : (a : Answer) → Sizes b (run_by a n b).bench
-    go Done = steps_sizes n b ok
-    go (Refused r) = same_sizes b
+    go (Ok u) = steps_sizes n b ok
+    go (Err r) = same_sizes b
 
 restored_sizes : (o : OldValues) (s : State) → (length (restored o s).0.main ≡ length s.0.main) × (length (restored o s).0.ports ≡ length s.0.ports)
 unfolding restored
@@ -142,16 +145,16 @@ restored_sizes o s = go (marked 8 o.marks)
     go true = (main_kept s.0 (where_of_number o.place) o.value, ports_kept s.0 (where_of_number o.place) o.value)
     go false = (refl, refl)
 
-put_back_sizes : (n : Newest) (b : Bench) → Sizes b (put_back n b)
-put_back_sizes (Record o left) b = let z = restored_sizes o b.state in record { main = z.0; ports = z.1; trail = refl }
-put_back_sizes Broken b = same_sizes b
+put_back_sizes : (n : Result Newest Broken) (b : Bench) → Sizes b (put_back n b)
+put_back_sizes (Ok r) b = let z = restored_sizes r.values b.state in record { main = z.0; ports = z.1; trail = refl }
+put_back_sizes (Err e) b = same_sizes b
 
 back_sizes : (b : Bench) → Sizes b (back_outcome b).bench
 back_sizes b = go (answer back b)
   where
     go : (a : Answer) → Sizes b (if_done a (put_back (newest_of b) b) b)
-    go Done = put_back_sizes (newest_of b) b
-    go (Refused r) = same_sizes b
+    go (Ok u) = put_back_sizes (newest_of b) b
+    go (Err r) = same_sizes b
 
 -- ---- each call keeps the history
 
@@ -161,7 +164,7 @@ module _ (b₀ : Bench) (ok : Valid b₀.state) where
 
   -- an operation
 
-  kept_done : (e : Operation) (b : Bench) (l : List Operation) → Typed e → Kept b₀ b l → answer (operate e) b ≡ Done → Kept b₀ (done e b) (e ∷ l)
+  kept_done : (e : Operation) (b : Bench) (l : List Operation) → Typed e → Kept b₀ b l → answer (operate e) b ≡ Ok tt → Kept b₀ (done e b) (e ∷ l)
   kept_done e b l t k a =
       let h = k.history in
       let g = accepted e b a in
@@ -182,8 +185,8 @@ module _ (b₀ : Bench) (ok : Valid b₀.state) where
   kept_operation e b l t k = go (answer (operate e) b) refl
     where
       go : (a : Answer) → answer (operate e) b ≡ a → Kept b₀ (if_done a (done e b) b) (if_done a (e ∷ l) l)
-      go Done h = kept_done e b l t k h
-      go (Refused r) h = k
+      go (Ok u) h = kept_done e b l t k h
+      go (Err r) h = k
 
   -- a run
 
@@ -203,15 +206,15 @@ module _ (b₀ : Bench) (ok : Valid b₀.state) where
           → (Kept b₀ (done step b) (step ∷ l) → Kept b₀ rest.bench (replicate rest.steps step ++ (step ∷ l)))
           → Kept b₀ (unless_stopped t b (stepped a b rest)).bench (replicate (unless_stopped t b (stepped a b rest)).steps step ++ l)
       go true a h ih = k
-      go false Done h ih = rw repeated at (ih (kept_done step b l tt k h))
-      go false (Refused r) h ih = k
+      go false (Ok u) h ih = rw repeated at (ih (kept_done step b l tt k h))
+      go false (Err r) h ih = k
 
   kept_run : (n : ℕ) (b : Bench) (l : List Operation) → Kept b₀ b l → Kept b₀ (run_outcome n b).bench (noted_run (run_outcome n b).answered l)
   kept_run n b l k = go (answer (run n) b)
     where
       go : (a : Answer) → Kept b₀ (run_by a n b).bench (noted_run (run_by a n b).answered l)
-      go Done = kept_steps n b l k
-      go (Refused r) = k
+      go (Ok u) = kept_steps n b l k
+      go (Err r) = k
 
   -- a take-back
 
@@ -223,7 +226,7 @@ module _ (b₀ : Bench) (ok : Valid b₀.state) where
     valid_then = through_valid l b₀.state ok k.fair.2
 
     -- the newest record is that of the newest operation listed
-    newest_is : newest_of b ≡ Record (old_values_of (kind_of e) was (next e was) (writes_at e was)) (length (trace l b₀.state))
+    newest_is : newest_of b ≡ read_back (old_values_of (kind_of e) was (next e was) (writes_at e was)) (length (trace l b₀.state))
     newest_is =
         let h = k.history in
         let u = undoes e was valid_then k.fair.0 in
@@ -306,21 +309,53 @@ module _ (b₀ : Bench) (ok : Valid b₀.state) where
 
 -- ---- calls in a row are a session
 
+-- What a call hands back that comes to an outcome of the definitions.
+handed : Outcome → Result After Refusal
+handed o = by o.answered
+  where
+    by : Answer → Result After Refusal
+    by (Ok u) = Ok (record { machine = machine_of o.bench.state; used = o.bench.used })
+    by (Err r) = Err r
+
+run_handed : RunOutcome → Result code.Ran Refusal
+run_handed o = by o.answered
+  where
+    by : RunAnswer → Result code.Ran Refusal
+    by (Ok n) = Ok (record { machine = machine_of o.bench.state; used = o.bench.used; steps = n.0; ending = n.1 })
+    by (Err r) = Err r
+
+-- Told again it is that outcome, since a refused one leaves the bench.
+handed_told : (b d : Bench) (a : Answer) → let o : Outcome = record { answered = a; bench = if_done a d b } in told_from b (handed o) o.bench.state.0.main o.bench.state.0.ports o.bench.trail ≡ o
+unfolding handed
+handed_told b d (Ok u) = refl
+handed_told b d (Err r) = refl
+
+run_handed_told : (b : Bench) (n : ℕ) (a : Answer) → let o = run_by a n b in run_told_from b (run_handed o) o.bench.state.0.main o.bench.state.0.ports o.bench.trail ≡ o
+unfolding run_handed
+run_handed_told b n (Ok u) = refl
+run_handed_told b n (Err r) = refl
+
 in_session : {b₀ : Bench} (cs : List Call) (b : Bench) (l : List Operation) → TypedCalls cs → Session b₀ b l → Session b₀ (after cs b) (listed_from l cs b)
 unfolding after listed_from
 in_session [] b l t s = s
-in_session (operate e ∷ cs) b l t s =
+in_session {b₀} (operate e ∷ cs) b l t s =
     let o = outcome e b in
+    let p = handed_told b (done e b) (answer (operate e) b) in
     in_session cs (called (operate e) b) (listing (operate e) b l) t.1
-    (operates e (record { machine = machine_of o.bench.state; used = o.bench.used; answer = o.answered }) o.bench.state.0.main o.bench.state.0.ports o.bench.trail s t.0 refl)
-in_session (run n ∷ cs) b l t s =
+    (subst (λ (x : Outcome). Session b₀ x.bench (noted e x.answered l)) p
+    (operates e (handed o) o.bench.state.0.main o.bench.state.0.ports o.bench.trail s t.0 p))
+in_session {b₀} (run n ∷ cs) b l t s =
     let o = run_outcome n b in
+    let p = run_handed_told b n (answer (run n) b) in
     in_session cs (called (run n) b) (listing (run n) b l) t
-    (runs n (record { machine = machine_of o.bench.state; used = o.bench.used; answer = o.answered }) o.bench.state.0.main o.bench.state.0.ports o.bench.trail s refl)
-in_session (back ∷ cs) b l t s =
+    (subst (λ (x : RunOutcome). Session b₀ x.bench (noted_run x.answered l)) p
+    (runs n (run_handed o) o.bench.state.0.main o.bench.state.0.ports o.bench.trail s p))
+in_session {b₀} (back ∷ cs) b l t s =
     let o = back_outcome b in
+    let p = handed_told b (put_back (newest_of b) b) (answer back b) in
     in_session cs (called back b) (listing back b l) t
-    (takes_back (record { machine = machine_of o.bench.state; used = o.bench.used; answer = o.answered }) o.bench.state.0.main o.bench.state.0.ports o.bench.trail s refl)
+    (subst (λ (x : Outcome). Session b₀ x.bench (struck x.answered l)) p
+    (takes_back (handed o) o.bench.state.0.main o.bench.state.0.ports o.bench.trail s p))
 
 -- The calls as the definitions give them are a session, so what holds of every session holds of them.
 pub calls_session : (b₀ : Bench) (cs : List Call) → TypedCalls cs → Session b₀ (after cs b₀) (listed cs b₀)

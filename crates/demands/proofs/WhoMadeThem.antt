@@ -7,8 +7,9 @@ use mathlib.Core.Option.{some}
 use mathlib.Core.List.{List, [], ◌∷◌, map}
 use lib.ListN.{length}
 use Rattle.report.specs.Section3.{State}
+use Rattle.trail.specs.declared.Kind.{Kind}
 use Rattle.trail.specs.declared.OldValues.{OldValues}
-use Rattle.trail.specs.Records.{kind_number, old_values, old_values_of}
+use Rattle.trail.specs.Records.{old_values, old_values_of}
 use Rattle.trail.proofs.NewestReadsBack.{Fits}
 use Rattle.viper.specs.Operations.{Bench, Operation, next, kind_of, writes_at}
 use Rattle.moving.specs.Rows.{row, GoodRow, records_of}
@@ -29,16 +30,13 @@ trace_row [] s = refl
 trace_row (e ∷ l) s = rw (trace_row l s)
 
 -- and their kinds those of the operations.
-abbrev pub kind_in : OldValues → ℕ
+abbrev pub kind_in : OldValues → Kind
 kind_in o = o.kind
 
-abbrev pub kind_for : Operation → ℕ
-kind_for e = kind_number (kind_of e)
-
-pub trace_kinds : (l : List Operation) (s : State) → map kind_in (made l s) ≡ map kind_for l
+pub trace_kinds : (l : List Operation) (s : State) → map kind_in (made l s) ≡ map kind_of l
 unfolding old_values
 trace_kinds [] s = refl
-trace_kinds (e ∷ l) s = ap (λ (r : List ℕ). kind_for e ∷ r) (trace_kinds l s)
+trace_kinds (e ∷ l) s = ap (λ (r : List Kind). kind_of e ∷ r) (trace_kinds l s)
 
 -- ---- they are good records, and the places of all of them are fitted
 
@@ -76,7 +74,7 @@ module _ (b₀ : Bench) (ok : Valid b₀.state) (z : b₀.used ≡ 0) {b : Bench
       row_reads true b.trail (made l b₀.state) b.used h.within (h.in_use ∙ trace_row l b₀.state) (made_good l b₀.state ok k.fair)
 
   -- so the kinds on the trail are the kinds of those operations, in their order.
-  pub session_kinds : (os : List OldValues) → records_of true b.trail b.used ≡ some os → map kind_in os ≡ map kind_for l
+  pub session_kinds : (os : List OldValues) → records_of true b.trail b.used ≡ some os → map kind_in os ≡ map kind_of l
   session_kinds os p =
       let same : some os ≡ some (made l b₀.state) = sym p ∙ session_records in
       let e : os ≡ made l b₀.state = cc in

@@ -1,25 +1,21 @@
 -- The words of the third demand: a valid machine with its stores, calls in a row, the list of operations kept beside them,
 -- and what the operations still listed give from the start. The list stands newest first, so that a take-back strikes its head.
 -- Assumes nothing.
-use Rattle.std.specs.Prelude.{ℕ, ◌^◌, ◌<◌, ◌≤◌, ◌≡◌, List, [], ◌∷◌, ◌++◌, length, take, replicate}
+use Prim.{tt}
+use Rattle.std.specs.Prelude.{ℕ, ◌^◌, ◌<◌, ◌≤◌, ◌≡◌, List, [], ◌∷◌, ◌++◌, length, take, replicate, Result, Ok, Err}
 use Rattle.report.specs.Section3.{State}
 use Rattle.report.specs.Parts.{InRange}
 use Rattle.machine.specs.Held.{machine_of}
 use Rattle.intel_hex.specs.Imported.{Imports}
-use Rattle.intel_hex.specs.declared.importing.Import.{Import}
-use Rattle.intel_hex.specs.declared.importing.Imported.TheVariants.{Accepted}
-use Rattle.viper.specs.Refusals.{if_done}
-use Rattle.viper.specs.Operations.{Bench, Operation, step, reset, force, set_word, next, record_for, Call, operate, run, back, outcome}
-use Rattle.viper.specs.Runs.{run_outcome}
+use Rattle.viper.specs.Refusals.{Answer, if_done}
+use Rattle.viper.specs.Operations.{Bench, Operation, step, reset, force, set_word, next, record_for, Call, operate, run, back, Outcome, outcome}
+use Rattle.viper.specs.Runs.{RunAnswer, RunOutcome, run_outcome}
 use Rattle.viper.specs.TakingBack.{back_outcome}
 use Rattle.viper.specs.Told.{bench, told, run_told}
+use Rattle.viper.specs.declared.Refusal.{Refusal}
 use Rattle.viper.specs.declared.Refusal.TheVariants.{NothingInUse}
-use Rattle.viper.specs.declared.Answer.{Answer}
-use Rattle.viper.specs.declared.Answer.TheVariants as answer
-use Rattle.viper.specs.declared.RunAnswer.{RunAnswer}
-use Rattle.viper.specs.declared.RunAnswer.TheVariants as run_answer
-use Rattle.viper.specs.declared.Outcome.{Outcome}
-use Rattle.viper.specs.declared.RunOutcome.{RunOutcome}
+use Rattle.viper.specs.declared.After.{After}
+use Rattle.viper.specs.declared.Ran.{Ran}
 
 -- ---- what the calls are given
 
@@ -46,8 +42,8 @@ TypedCalls (back ∷ cs) = TypedCalls cs
 
 -- Whether a run was refused; else it was accepted, however it ended.
 abbrev pub accepted_or_refused : RunAnswer → Answer
-accepted_or_refused (run_answer.Ended n e) = answer.Done
-accepted_or_refused (run_answer.Refused r) = answer.Refused r
+accepted_or_refused (Ok n) = Ok tt
+accepted_or_refused (Err r) = Err r
 
 -- What a call answers, and the bench it leaves.
 abbrev pub answered : Call → Bench → Answer
@@ -73,8 +69,8 @@ noted e a l = if_done a (e ∷ l) l
 
 -- a run as its single steps,
 abbrev pub steps_done : RunAnswer → ℕ
-steps_done (run_answer.Ended n e) = n
-steps_done (run_answer.Refused r) = 0
+steps_done (Ok n) = n.0
+steps_done (Err r) = 0
 
 abbrev pub noted_run : RunAnswer → List Operation → List Operation
 noted_run a l = replicate (steps_done a) step ++ l
@@ -130,30 +126,40 @@ pub record History (b₀ b : Bench) (l : List Operation) : Type 0 where
 
 -- What a take-back answers, by what is listed: refusal 7 if nothing is; else it is accepted.
 abbrev pub back_by : List Operation → Answer
-back_by [] = answer.Refused NothingInUse
-back_by (e ∷ l) = answer.Done
+back_by [] = Err NothingInUse
+back_by (e ∷ l) = Ok tt
 
 -- ---- the calls themselves
+
+-- What a call handed back that was given a bench's machine and count in use, with what it left in both stores and the trail: its answer, and the bench.
+abbrev pub told_from : Bench → Result After Refusal → List ℕ → List ℕ → List ℕ → Outcome
+told_from b r main ports trail = told r (machine_of b.state) b.used main ports trail
+
+abbrev pub run_told_from : Bench → Result Ran Refusal → List ℕ → List ℕ → List ℕ → RunOutcome
+run_told_from b r main ports trail = run_told r (machine_of b.state) b.used main ports trail
 
 -- A session that began with the bench b₀, the bench now, and the list kept by the answers: each call is given what the one before it left,
 -- and answers and leaves anything that its contract allows. `operates` is step, reset, force and set.
 -- The equation that each carries is the call's `ensures` (of reset and force, which are lent no store, at the stores as they are).
 pub data Session (b₀ : Bench) : Bench → List Operation → Type 0 where
   begins : Session b₀ b₀ []
-  operates : {b : Bench} {l : List Operation} (e : Operation) (r : Outcome) (main ports trail : List ℕ) → Session b₀ b l → Typed e
-      → told r main ports trail ≡ outcome e b → Session b₀ (bench r.machine main ports trail r.used) (noted e r.answer l)
-  runs : {b : Bench} {l : List Operation} (n : ℕ) (r : RunOutcome) (main ports trail : List ℕ) → Session b₀ b l
-      → run_told r main ports trail ≡ run_outcome n b → Session b₀ (bench r.machine main ports trail r.used) (noted_run r.answer l)
-  takes_back : {b : Bench} {l : List Operation} (r : Outcome) (main ports trail : List ℕ) → Session b₀ b l
-      → told r main ports trail ≡ back_outcome b → Session b₀ (bench r.machine main ports trail r.used) (struck r.answer l)
+  operates : {b : Bench} {l : List Operation} (e : Operation) (r : Result After Refusal) (main ports trail : List ℕ) → Session b₀ b l → Typed e
+      → told_from b r main ports trail ≡ outcome e b
+      → Session b₀ (told_from b r main ports trail).bench (noted e (told_from b r main ports trail).answered l)
+  runs : {b : Bench} {l : List Operation} (n : ℕ) (r : Result Ran Refusal) (main ports trail : List ℕ) → Session b₀ b l
+      → run_told_from b r main ports trail ≡ run_outcome n b
+      → Session b₀ (run_told_from b r main ports trail).bench (noted_run (run_told_from b r main ports trail).answered l)
+  takes_back : {b : Bench} {l : List Operation} (r : Result After Refusal) (main ports trail : List ℕ) → Session b₀ b l
+      → told_from b r main ports trail ≡ back_outcome b
+      → Session b₀ (told_from b r main ports trail).bench (struck (told_from b r main ports trail).answered l)
 
 -- ---- the history starts again
 
 -- The bench that a call left which starts the history again: an accepted import of Intel HEX (document 02, W4). Main holds the text's words, no byte
 -- of the trail is in use, and machine, ports and trail bytes are as they were.
 pub data StartsAgain (b : Bench) : Bench → Type 0 where
-  imports : (text main : List ℕ) (r : Import) → Imports b.state.0.main b.used text r main → r.answer ≡ Accepted
-      → StartsAgain b (bench (machine_of b.state) main b.state.0.ports b.trail r.used)
+  imports : (text main : List ℕ) (used : ℕ) → Imports b.state.0.main text (Ok used) main
+      → StartsAgain b (bench (machine_of b.state) main b.state.0.ports b.trail used)
 
 -- The benches where a history begins, of a counter that opened with b₀: that one, and each that a call after a session started again with.
 pub data Begins (b₀ : Bench) : Bench → Type 0 where
