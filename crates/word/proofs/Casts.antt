@@ -1,39 +1,15 @@
 -- A word as a signed number, the way the code makes it: what an i32 or an i64 holds is the number, since it fits.
 -- Assumes nothing.
-use Rattle.std.proofs.Common.{◌≡◌, ℕ, zero, suc, ◌+◌, ◌-◌, ◌*◌, ◌/◌, ◌%◌, ◌^◌, ◌<◌, ◌≤◌, true, false, T, ℤ, pos, negsuc, ◌+ℤ◌, ◌-ℤ◌, neg_ℤ, nat_abs, sym, refl, ap, ◌∙◌, subst, true≢false, not-suc-le-zero, arith, to_z-of_z, w32, w64, Fits, SFits, to_z, of_z, ltb-true, le-ltb, lt-ltb}
+use Rattle.std.proofs.Common.{◌≡◌, ℕ, zero, suc, ◌+◌, ◌-◌, ◌*◌, ◌/◌, ◌%◌, ◌^◌, ◌<◌, ℤ, pos, negsuc, ◌+ℤ◌, ◌-ℤ◌, neg_ℤ, sym, ap, ◌∙◌, subst, arith, to_z-of_z, w32, w64, SFits, to_z, of_z, le-ltb, lt-ltb}
 use lib.IntN.{sub_ℕ}
-use lib.Signed.{mag, shr_z, mag_shr, lt_z, non_neg}
-use mir.Facts.{to_z_pos, sfits_widen, Fits-of_z}
+use lib.Signed.{mag, shr_z, mag_shr}
+use mir.Facts.{sfits_widen}
 use mir.ValLaws.{sfits_le}
 use Rattle.report.specs.Parts.{signed}
 use Rattle.report.specs.Section3.{RIGHTARITH}
 use Rattle.report.proofs.Bits.{by_le, bit}
 use Rattle.report.proofs.Words.{rightarith_is}
 use Rattle.report.proofs.AnnexB.{signed_low, signed_high}
-
-pub cast_low : (r : ℕ) → r < 2 ^ 31 → to_z w64 r ≡ signed r
-cast_low r h = to_z_pos w64 {n = r} (omega arith) ∙ sym (signed_low r h)
-
-pub high_64 : (r : ℕ) → r < 2 ^ 32 → to_z w64 r -ℤ pos 4294967296 ≡ negsuc (2 ^ 32 - suc r)
-high_64 r h = simp (to_z_pos w64 {n = r} (omega arith)) (simp (lt-ltb r (2 ^ 32) h))
-
-pub high_fits : (r : ℕ) → 2 ^ 31 ≤ r → r < 2 ^ 32 → SFits w64 (to_z w64 r -ℤ pos 4294967296)
-high_fits r g h = rw (high_64 r h) (record { sfits = omega arith })
-
-pub cast_high : (r : ℕ) → 2 ^ 31 ≤ r → r < 2 ^ 32 → to_z w64 (of_z w64 (to_z w64 r -ℤ pos 4294967296)) ≡ signed r
-cast_high r g h = to_z-of_z {w = w64} (high_fits r g h) ∙ (high_64 r h ∙ sym (signed_high r g h))
-
-pub low_32 : (r : ℕ) → r < 2 ^ 31 → to_z w32 r ≡ signed r
-low_32 r h = to_z_pos w32 {n = r} (omega arith) ∙ sym (signed_low r h)
-
-pub high_32 : (r : ℕ) → 2 ^ 31 ≤ r → r < 2 ^ 32 → to_z w32 (r - 2147483648) +ℤ negsuc 2147483647 ≡ negsuc (2 ^ 32 - suc r)
-high_32 r g h = simp (to_z_pos w32 {n = r - 2147483648} (omega arith)) (simp (lt-ltb (r - 2147483648) 2147483648 (omega arith)) (ap negsuc (omega arith)))
-
-pub high_fits_32 : (r : ℕ) → 2 ^ 31 ≤ r → r < 2 ^ 32 → SFits w32 (to_z w32 (r - 2147483648) +ℤ negsuc 2147483647)
-high_fits_32 r g h = rw (high_32 r g h) (record { sfits = omega arith })
-
-pub cast_high_32 : (r : ℕ) → 2 ^ 31 ≤ r → r < 2 ^ 32 → to_z w32 (of_z w32 (to_z w32 (r - 2147483648) +ℤ negsuc 2147483647)) ≡ signed r
-cast_high_32 r g h = to_z-of_z {w = w32} (high_fits_32 r g h) ∙ (high_32 r g h ∙ sym (signed_high r g h))
 
 -- ---- sums and differences of two signed words fit 64 bits
 
@@ -81,40 +57,6 @@ module _ (a b : ℤ) (r m : ℕ) (ea : a ≡ signed r) (eb : b ≡ signed m) (hr
 
   pub dif_back : to_z w64 (of_z w64 (to_z w64 (of_z w64 a) -ℤ to_z w64 (of_z w64 b))) ≡ signed r -ℤ signed m
   dif_back = to_z-of_z {w = w64} dif_fits ∙ dif_is
-
--- ---- an i32's word
-
-module _ (s : ℤ) (h : SFits w32 s) where
-  pub wide_fits : SFits w64 (to_z w32 (of_z w32 s))
-  wide_fits = subst (SFits w64) (sym (to_z-of_z {w = w32} h)) (sfits_widen {w = w32} {w' = w64} tt h)
-
-  wide_is : to_z w64 (of_z w64 (to_z w32 (of_z w32 s))) ≡ s
-  wide_is = to_z-of_z {w = w64} wide_fits ∙ to_z-of_z {w = w32} h
-
-  pub more_fits : SFits w64 (to_z w64 (of_z w64 (to_z w32 (of_z w32 s))) +ℤ pos 4294967296)
-  more_fits = subst (λ (z : ℤ). SFits w64 (z +ℤ pos 4294967296)) (sym wide_is) (record { sfits = mag_sum s (pos 4294967296) h.sfits (omega arith) })
-
-neg_sum : (s : ℤ) → SFits w32 s → lt_z s (pos 0) ≡ true → s +ℤ pos 4294967296 ≡ pos (of_z w32 s)
-neg_sum (pos n) h t = absurd (not-suc-le-zero (ltb-true n 0 t))
-neg_sum (negsuc n) h t = simp (le-ltb 4294967296 (suc n) (omega (arith, h.sfits)))
-
-pos_is : (s : ℤ) → lt_z s (pos 0) ≡ false → s ≡ pos (of_z w32 s)
-pos_is (pos n) t = refl
-pos_is (negsuc n) t = absurd (true≢false t)
-
-module _ (s : ℤ) (h : SFits w32 s) (t : lt_z (to_z w32 (of_z w32 s)) (pos 0) ≡ true) where
-  pub neg_word : to_z w64 (of_z w64 (to_z w64 (of_z w64 (to_z w32 (of_z w32 s))) +ℤ pos 4294967296)) ≡ pos (of_z w32 s)
-  neg_word = to_z-of_z {w = w64} (more_fits s h) ∙ (ap (λ (z : ℤ). z +ℤ pos 4294967296) (wide_is s h) ∙ neg_sum s h (rw (to_z-of_z {w = w32} h) at t))
-
-  pub neg_casts : T (non_neg (to_z w64 (of_z w64 (to_z w64 (of_z w64 (to_z w32 (of_z w32 s))) +ℤ pos 4294967296)))) × Fits w32 (nat_abs (to_z w64 (of_z w64 (to_z w64 (of_z w64 (to_z w32 (of_z w32 s))) +ℤ pos 4294967296))))
-  neg_casts = subst (λ (z : ℤ). T (non_neg z) × Fits w32 (nat_abs z)) (sym neg_word) (tt, Fits-of_z {w = w32} h)
-
-module _ (s : ℤ) (h : SFits w32 s) (t : lt_z (to_z w32 (of_z w32 s)) (pos 0) ≡ false) where
-  pub pos_word : to_z w32 (of_z w32 s) ≡ pos (of_z w32 s)
-  pos_word = to_z-of_z {w = w32} h ∙ pos_is s (rw (to_z-of_z {w = w32} h) at t)
-
-  pub pos_casts : T (non_neg (to_z w32 (of_z w32 s))) × Fits w32 (nat_abs (to_z w32 (of_z w32 s)))
-  pos_casts = subst (λ (z : ℤ). T (non_neg z) × Fits w32 (nat_abs z)) (sym pos_word) (tt, Fits-of_z {w = w32} h)
 
 -- ---- the shift that copies the sign
 

@@ -1,2 +1,3 @@
 pub mod Casts
 pub mod Results
+pub mod Carries

@@ -3,7 +3,7 @@
 
 ghost use Rattle.std.specs.Prelude.{◌≡◌, ℕ, ◌<◌, true, false};
 ghost use Rattle.report.specs.Section3.{ADD32, SUB32, COMPARE, RIGHT, LEFT, RIGHTARITH, INVALID, ALU};
-ghost use Rattle.report.specs.Parts.{signed as signed_of, less as less_than, shifted, jumping, to_p};
+ghost use Rattle.report.specs.Parts.{signed as signed_of, less as less_than, shifted, jumping, to_p, overflows};
 ghost use Rattle.word.specs.Triples.{sum_triple, result_triple};
 ghost use Rattle.std.specs.Int.{w32};
 ghost use Rattle.std.proofs.Common.{of_z};
@@ -22,6 +22,15 @@ pub struct AluResult {
     pub value: u32,
     pub b: bool,
     pub stop: bool,
+}
+
+impl AluResult {
+    // A row of tables 6A and 6B: the word, the new B, and whether it stops the machine.
+    fn new(value: u32, b: bool, stop: bool) -> AluResult
+        ensures { result_triple result ≡ (value, b, stop) }
+    {
+        AluResult { value, b, stop }
+    }
 }
 
 // The signed number of a word, wide enough that a sum or a difference of two is exact.
@@ -46,22 +55,29 @@ pub fn word_of(s: i32) -> u32
 }
 
 // Signed less-than.
+#[tactic(auto, using(crate::proofs::Casts::back32))]
 pub fn less(r: u32, m: u32) -> bool
     ensures { result ≡ less_than r m }
 {
     signed_word(r) < signed_word(m)
 }
 
+// A sum or a difference is none of a word's signed numbers.
+fn overflows(exact: i64) -> bool
+    ensures { result ≡ overflows exact }
+{
+    i32::try_from(exact).is_err()
+}
+
 // R + M. Nobody above this crate knows how overflow is worked out.
 pub fn add(r: u32, m: u32) -> Sum
     ensures { sum_triple result ≡ ADD32 (r, m) }
 {
-    let value = r.wrapping_add(m);
-    let s = signed(r) + signed(m);
+    let (value, carry) = r.overflowing_add(m);
     Sum {
         value,
-        carry: value < r,
-        overflow: (s < -0x8000_0000) | (s > 0x7fff_ffff),
+        carry,
+        overflow: overflows(signed(r) + signed(m)),
     }
 }
 
@@ -69,16 +85,16 @@ pub fn add(r: u32, m: u32) -> Sum
 pub fn subtract(r: u32, m: u32) -> Sum
     ensures { sum_triple result ≡ SUB32 (r, m) }
 {
-    let value = r.wrapping_sub(m);
-    let d = signed(r) - signed(m);
+    let (value, carry) = r.overflowing_sub(m);
     Sum {
         value,
-        carry: r < m,
-        overflow: (d < -0x8000_0000) | (d > 0x7fff_ffff),
+        carry,
+        overflow: overflows(signed(r) - signed(m)),
     }
 }
 
 // Table 5.
+#[tactic(auto, using(report::proofs::Readings::compare_is), unfolding(report::specs::Parts::compared))]
 pub fn compare(fsf: u32, r: u32, m: u32, b: bool) -> bool
     ensures { result ≡ COMPARE (fsf, r, m, b) }
 {
@@ -104,6 +120,7 @@ pub fn compare(fsf: u32, r: u32, m: u32, b: bool) -> bool
 }
 
 // One place right, with the sign copied.
+#[tactic(auto, using(crate::proofs::Casts::shift_is))]
 pub fn right_arith(r: u32) -> u32
     ensures { result ≡ RIGHTARITH r }
 {
@@ -111,6 +128,7 @@ pub fn right_arith(r: u32) -> u32
 }
 
 // One place right, with b as the new top bit.
+#[tactic(auto, using(report::proofs::Words::right_is))]
 pub fn right(b: bool, r: u32) -> u32
     ensures { result ≡ RIGHT (b, r) }
 {
@@ -118,6 +136,7 @@ pub fn right(b: bool, r: u32) -> u32
 }
 
 // One place left, with b as the new low bit.
+#[tactic(auto, using(report::proofs::Words::left_is))]
 pub fn left(r: u32, b: bool) -> u32
     ensures { result ≡ LEFT (r, b) }
 {
@@ -126,6 +145,7 @@ pub fn left(r: u32, b: bool) -> u32
 }
 
 // Any of the top twelve bits is set, so the word is no address and no P.
+#[tactic(auto, using(report::proofs::Readings::invalid_is))]
 pub fn invalid(v: u32) -> bool
     ensures { result ≡ INVALID v }
 {
@@ -133,123 +153,58 @@ pub fn invalid(v: u32) -> bool
 }
 
 // Table 6B: the four shifts, by msf, for a destination other than P.
+#[tactic(auto, using(report::proofs::Words::rightarith_is, report::proofs::Words::right_is, report::proofs::Words::left_is, report::proofs::AnnexB::add_is), unfolding(report::specs::Parts::shifted))]
 fn shift(msf: u32, r: u32, b: bool) -> AluResult
     ensures { result_triple result ≡ shifted msf false r b }
 {
     match msf {
-        0 => AluResult {
-            value: right_arith(r),
-            b,
-            stop: false,
-        },
-        1 => AluResult {
-            value: right(b, r),
-            b: r % 2 == 1,
-            stop: false,
-        },
+        0 => AluResult::new(right_arith(r), b, false),
+        1 => AluResult::new(right(b, r), r % 2 == 1, false),
         2 => {
             let double = add(r, r);
-            AluResult {
-                value: double.value,
-                b,
-                stop: double.overflow,
-            }
+            AluResult::new(double.value, b, double.overflow)
         }
-        _ => AluResult {
-            value: left(r, b),
-            b: r / 0x8000_0000 % 2 == 1,
-            stop: false,
-        },
+        _ => AluResult::new(left(r, b), r / 0x8000_0000 % 2 == 1, false),
     }
 }
 
 // Tables 6A and 6B where the result goes to A, X or Y.
+#[tactic(auto, using(crate::proofs::Results::register_is), unfolding(report::specs::Parts::computed))]
 pub fn alu_register(fsf: u32, msf: u32, r: u32, m: u32, b: bool) -> AluResult
     ensures { (dsf : ℕ) → dsf < 3 → result_triple result ≡ ALU (fsf, msf, dsf, r, m, b) }
 {
     match fsf {
-        0 => AluResult {
-            value: !m,
-            b,
-            stop: false,
-        },
-        1 => AluResult {
-            value: m,
-            b,
-            stop: true,
-        },
-        2 => AluResult {
-            value: m,
-            b,
-            stop: false,
-        },
-        3 => AluResult {
-            value: m,
-            b,
-            stop: false,
-        },
+        0 => AluResult::new(!m, b, false),
+        1 => AluResult::new(m, b, true),
+        2 => AluResult::new(m, b, false),
+        3 => AluResult::new(m, b, false),
         4 => {
             let sum = add(r, m);
-            AluResult {
-                value: sum.value,
-                b: sum.carry,
-                stop: false,
-            }
+            AluResult::new(sum.value, sum.carry, false)
         }
         5 => {
             let sum = add(r, m);
-            AluResult {
-                value: sum.value,
-                b,
-                stop: sum.overflow,
-            }
+            AluResult::new(sum.value, b, sum.overflow)
         }
         6 => {
             let dif = subtract(r, m);
-            AluResult {
-                value: dif.value,
-                b: dif.carry,
-                stop: false,
-            }
+            AluResult::new(dif.value, dif.carry, false)
         }
         7 => {
             let dif = subtract(r, m);
-            AluResult {
-                value: dif.value,
-                b,
-                stop: dif.overflow,
-            }
+            AluResult::new(dif.value, b, dif.overflow)
         }
-        8 => AluResult {
-            value: r ^ m,
-            b,
-            stop: false,
-        },
-        9 => AluResult {
-            value: r & m,
-            b,
-            stop: false,
-        },
-        10 => AluResult {
-            value: !(r | m),
-            b,
-            stop: false,
-        },
-        11 => AluResult {
-            value: r & !m,
-            b,
-            stop: false,
-        },
+        8 => AluResult::new(r ^ m, b, false),
+        9 => AluResult::new(r & m, b, false),
+        10 => AluResult::new(!(r | m), b, false),
+        11 => AluResult::new(r & !m, b, false),
         12 => shift(msf, r, b),
-        _ => AluResult {
-            value: r,
-            b,
-            stop: true,
-        },
+        _ => AluResult::new(r, b, true),
     }
 }
 
 // Table 6A where the result goes to P, which takes the functions 1, 3, 5 and 7 alone.
+#[tactic(auto, using(crate::proofs::Results::jump_to_m), unfolding(report::specs::Section3::ALU))]
 pub fn alu_jump(fsf: u32, r: u32, m: u32, b: bool) -> AluResult
     requires { jumping fsf ≡ true }
     ensures { (msf dsf : ℕ) → to_p dsf ≡ true → result_triple result ≡ ALU (fsf, msf, dsf, r, m, b) }
@@ -257,24 +212,12 @@ pub fn alu_jump(fsf: u32, r: u32, m: u32, b: bool) -> AluResult
     match fsf {
         5 => {
             let sum = add(r, m);
-            AluResult {
-                value: sum.value,
-                b,
-                stop: sum.overflow | invalid(sum.value),
-            }
+            AluResult::new(sum.value, b, sum.overflow | invalid(sum.value))
         }
         7 => {
             let dif = subtract(r, m);
-            AluResult {
-                value: dif.value,
-                b,
-                stop: dif.overflow | invalid(dif.value),
-            }
+            AluResult::new(dif.value, b, dif.overflow | invalid(dif.value))
         }
-        _ => AluResult {
-            value: m,
-            b,
-            stop: invalid(m),
-        },
+        _ => AluResult::new(m, b, invalid(m)),
     }
 }
