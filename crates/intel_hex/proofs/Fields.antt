@@ -1,85 +1,46 @@
--- The fields of the line that starts at a place of the text are the text's bytes at their places; each way out of a reader decides as the definition does.
+-- The fields of a well-formed line are bytes that stand in it.
 -- Assumes nothing.
-use Prim.Native.Nat.{ℕ, ◌+◌, ◌*◌, ◌≤◌}
-use mathlib.Core.Path.{◌≡◌}
-use mathlib.Core.Bool.{true, false}
+use Prim.Native.Nat.{ℕ, ◌+◌, ◌*◌, ◌≤◌, ◌<◌}
+use mathlib.Core.Path.{◌≡◌, refl}
+use mathlib.Core.Bool.{Bool, true, false}
 use mathlib.Core.List.{List}
-use native.Mathlib.Nat.{add-zero}
-use lib.Dec.{ltb}
-use lib.ListN.{length, get_or, drop, drop_of_length-le}
-use lib.Seq.{get_or-drop, drop-drop}
-use borrow.Author.Tests.{ne_eqb}
+use native.Mathlib.Omega.{arith}
+use lib.ListN.{drop}
+use lib.Seq.{drop-drop}
 use Rattle.intel_hex.specs.Digits.{byte}
-use Rattle.intel_hex.specs.Lines.{bytes, summed, ending, size_of, well_formed, data_line, end_of, upper_of, by_type, layout_of, line_of}
-use Rattle.intel_hex.specs.declared.lines.Line.TheVariants.{IllFormed}
+use Rattle.intel_hex.specs.Lines.{count_of, signs_of, ending, well_formed}
+use Rattle.intel_hex.proofs.Bytes.{each_byte}
+use Rattle.intel_hex.proofs.Texts.{line_bytes, ending_some}
 
-module _ (text : List ℕ) (at : ℕ) where
-  pub size_there : {count e : ℕ}
-      → count ≡ byte (drop (at + 1) text)
-      → e ≡ ending (drop (at + (11 + 2 * count)) text)
-      → 11 + 2 * count + e ≡ size_of (drop at text)
-  unfolding size_of
-  size_there {count} {e} c f = rw (drop-drop 1 at text, ← c, drop-drop (11 + 2 * count) at text, ← f)
+module _ (line : List ℕ) (w : well_formed line ≡ true) where
+  field_there : (j : ℕ) → j < count_of line + 5 → byte (drop (1 + 2 * j) line) < 256
+  field_there j h = rw (drop-drop (2 * j) 1 line) at (each_byte (count_of line + 5) j (drop 1 line) (line_bytes line w) h)
 
-  layout_there : layout_of (drop at text)
-      ≡ by_type (byte (drop (at + 7) text)) (byte (drop (at + 1) text)) (256 * byte (drop (at + 3) text) + byte (drop (at + 5) text)) (256 * byte (drop (at + 9) text) + byte (drop (at + 11) text))
-  unfolding layout_of
-  layout_there = rw (drop-drop 7 at text, drop-drop 1 at text, drop-drop 3 at text, drop-drop 5 at text, drop-drop 9 at text, drop-drop 11 at text)
+  pub count_there : byte (drop 1 line) < 256
+  count_there = field_there 0 (omega arith)
 
-  pub type_other : {type : ℕ}
-      → type ≡ byte (drop (at + 7) text)
-      → (type ≡ 0 → ⊥)
-      → (type ≡ 1 → ⊥)
-      → (type ≡ 4 → ⊥)
-      → IllFormed ≡ layout_of (drop at text)
-  unfolding by_type
-  type_other {type} k g h i = rw (layout_there, ← k, ne_eqb type 0 g, ne_eqb type 1 h, ne_eqb type 4 i)
+  pub high_there : byte (drop 3 line) < 256
+  high_there = field_there 1 (omega arith)
 
-  module _ {count high low type : ℕ}
-      (c : count ≡ byte (drop (at + 1) text))
-      (h : high ≡ byte (drop (at + 3) text))
-      (l : low ≡ byte (drop (at + 5) text))
-      (k : type ≡ byte (drop (at + 7) text)) where
-    pub type_data : type ≡ 0 → data_line count (256 * high + low) ≡ layout_of (drop at text)
-    unfolding by_type
-    type_data e = rw (layout_there, ← k, e, ← c, ← h, ← l)
+  pub low_there : byte (drop 5 line) < 256
+  low_there = field_there 2 (omega arith)
 
-    pub type_end : type ≡ 1 → end_of count (256 * high + low) ≡ layout_of (drop at text)
-    unfolding by_type
-    type_end e = rw (layout_there, ← k, e, ← c, ← h, ← l)
+  pub type_there : byte (drop 7 line) < 256
+  type_there = field_there 3 (omega arith)
 
-    pub type_upper : {uh ul : ℕ}
-        → uh ≡ byte (drop (at + 9) text)
-        → ul ≡ byte (drop (at + 11) text)
-        → type ≡ 4
-        → upper_of count (256 * high + low) (256 * uh + ul) ≡ layout_of (drop at text)
-    unfolding by_type
-    type_upper m n e = rw (layout_there, ← k, e, ← c, ← h, ← l, ← m, ← n)
+  -- Of two data bytes each is one.
+  pub first_there : byte (drop 9 line) < 256
+  first_there = field_there 4 (omega arith)
 
-  first_sign : get_or (drop at text) 0 0 ≡ get_or text at 0
-  first_sign = rw (get_or-drop at text 0 0, add-zero)
+  pub second_there : count_of line ≡ 2 → byte (drop 11 line) < 256
+  second_there e = field_there 5 (omega arith)
 
-  pub no_line_there : length text ≤ at → false ≡ well_formed (drop at text)
-  unfolding well_formed
-  no_line_there h = rw (drop_of_length-le text h)
+  pub ending_there : 0 < ending (drop (signs_of line) line)
+  ending_there = ending_some line w
 
-  pub no_colon_there : (get_or text at 0 ≡ 58 → ⊥) → false ≡ well_formed (drop at text)
-  unfolding well_formed
-  no_colon_there g = rw (first_sign, ne_eqb (get_or text at 0) 58 g)
-
-  module _ {count s : ℕ} (colon : get_or text at 0 ≡ 58) (c : count ≡ byte (drop (at + 1) text)) (t : s ≡ summed (bytes (count + 5) (drop (at + 1) text))) where
-    pub no_sum_there : (s ≡ 0 → ⊥) → false ≡ well_formed (drop at text)
-    unfolding well_formed
-    no_sum_there g = rw (first_sign, colon, drop-drop 1 at text, ← c, ← t, ne_eqb s 0 g)
-
-    pub ending_decides : {e : ℕ} → s ≡ 0 → e ≡ ending (drop (at + (11 + 2 * count)) text) → ltb 0 e ≡ well_formed (drop at text)
-    unfolding well_formed
-    ending_decides {e} z f = rw (first_sign, colon, drop-drop 1 at text, ← c, ← t, z, drop-drop (11 + 2 * count) at text, ← f)
-
-  pub line_shaped : well_formed (drop at text) ≡ true → layout_of (drop at text) ≡ line_of (drop at text)
-  unfolding line_of
-  line_shaped e = rw e
-
-  pub line_shapeless : well_formed (drop at text) ≡ false → IllFormed ≡ line_of (drop at text)
-  unfolding line_of
-  line_shapeless e = rw e
+pub no_count : (line : List ℕ) → 256 ≤ byte (drop 1 line) → false ≡ well_formed line
+no_count line h = go (well_formed line) refl
+  where
+    go : (t : Bool) → well_formed line ≡ t → false ≡ t
+    go true w = absurd (omega (arith, count_there line w))
+    go false w = refl

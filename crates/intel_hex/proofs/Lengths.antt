@@ -1,27 +1,44 @@
 -- How long an export's texts are, and how the rows of a list with one word more go on.
 -- Assumes nothing.
-use Prim.Native.Nat.{ℕ, zero, suc, ◌+◌, ◌*◌, ◌-◌, ◌/◌, ◌%◌, ◌≤◌, ◌<◌}
+use Prim.Native.Nat.{ℕ, zero, suc, ◌+◌, ◌*◌, ◌-◌, ◌/◌, ◌%◌, ◌≤◌, ◌<◌, min}
 use mathlib.Core.Path.{◌≡◌, refl, ap, sym, ◌∙◌}
-use mathlib.Core.Bool.{Bool, true, false}
+use mathlib.Core.Bool.{Bool, true, false, cond, ◌&&◌}
 use mathlib.Core.List.{List, [], ◌∷◌, ◌++◌, append_assoc, append-nil}
 use native.Mathlib.Omega.{arith}
 use native.Mathlib.Nat.{add-zero, zero-add, suc-add}
 use native.Mathlib.Numerals.{add-one}
-use lib.Dec.{ltb, eqb}
+use lib.Dec.{leb, ltb, eqb}
 use lib.ListN.{length, get_or, take, drop, length-append, length-drop}
-use lib.Seq.{take-suc, get_or-drop, take_all, length-take-le}
-use borrow.Author.Tests.{lt-ltb, eq-eqb, ne_eqb, ltb-true, ltb-false, eqb-true, eqb-false}
-use Rattle.intel_hex.specs.Digits.{digits_of}
-use Rattle.intel_hex.specs.Layout.{pairs, sum, sum_byte, head_bytes, record_line, word_bytes, data_bytes}
+use lib.Seq.{take-suc, take_all, length-take-le}
+use borrow.Author.Tests.{lt-ltb, eq-eqb, ne_eqb, leb-true, leb-false, ltb-true, ltb-false, eqb-true, eqb-false}
+use Rattle.std.specs.Prelude.{sum}
+use Rattle.std.specs.Int.{w16, to_be_bytes}
+use Rattle.std.proofs.lemmas.List.Sums.{sum_by-cons}
+use Rattle.text.specs.Digits.{hex}
+use Rattle.intel_hex.specs.Layout.{pairs, record_line, data_bytes}
 use Rattle.intel_hex.specs.Exported.{upper_line, end_line, upper_before, row_words, row_count, row, rows, exported, blocks, exported_length}
 
 pub pairs_append : (a b : List ℕ) → pairs (a ++ b) ≡ pairs a ++ pairs b
 pairs_append [] b = refl
 pairs_append (x ∷ a) b = rw (pairs_append a b)
 
-pub sum_append : (a b : List ℕ) → sum (a ++ b) ≡ sum a + sum b
-sum_append [] b = omega arith
-sum_append (x ∷ a) b = omega (arith, sum_append a b)
+pub sum_small : (bs : List ℕ) → ((i : ℕ) → get_or bs i 0 < 256) → sum bs ≤ 255 * length bs
+sum_small [] h = omega arith
+sum_small (b ∷ bs) h = omega (arith, sum_by-cons (λ x. x) b bs, h 0, sum_small bs (λ i. h (suc i)))
+
+pub pairs_more : (bs : List ℕ) (i : ℕ) → i < length bs → pairs (take (i + 1) bs) ≡ pairs (take i bs) ++ hex 2 (get_or bs i 0)
+unfolding hex
+pairs_more bs i h = rw (add-one, take-suc bs i 0 h, pairs_append)
+
+-- An address is two bytes, the high one first.
+pub two_bytes : (n : ℕ) → n < 65536 → to_be_bytes w16 n ≡ n / 256 ∷ n % 256 ∷ []
+two_bytes n h =
+    let e : n / 256 % 256 ≡ n / 256 = omega arith in
+    rw e
+
+pub hex_two : (n : ℕ) → length (hex 2 n) ≡ 2
+unfolding hex
+hex_two n = refl
 
 pub data_append : (a b : List ℕ) → data_bytes (a ++ b) ≡ data_bytes a ++ data_bytes b
 data_append [] b = refl
@@ -37,22 +54,6 @@ data_length (w ∷ words) = omega (arith, data_length words)
 
 pub words_length : (words : List ℕ) → length (pairs (data_bytes words)) ≡ 8 * length words
 words_length words = omega (arith, pairs_length (data_bytes words), data_length words)
-
-module _ (main : List ℕ) (first i : ℕ) (more : first + i < length main) where
-  one_more : take (i + 1) (drop first main) ≡ take i (drop first main) ++ (get_or main (first + i) 0 ∷ [])
-  one_more =
-      let h : i < length (drop first main) = rw length-drop (omega arith) in
-      rw (add-one, take-suc (drop first main) i 0 h, get_or-drop)
-
-  pub one_word_more :
-      pairs (data_bytes (take (i + 1) (drop first main)))
-      ≡ pairs (data_bytes (take i (drop first main))) ++ pairs (word_bytes (get_or main (first + i) 0))
-  one_word_more = rw (one_more, data_append, pairs_append)
-
-  pub one_sum_more :
-      sum (data_bytes (take (i + 1) (drop first main)))
-      ≡ sum (data_bytes (take i (drop first main))) + sum (word_bytes (get_or main (first + i) 0))
-  one_sum_more = rw (one_more, data_append, sum_append)
 
 pub line_length : (type address : ℕ) (bytes : List ℕ) → length (record_line type address bytes) ≡ 12 + 2 * length bytes
 unfolding record_line
@@ -81,19 +82,6 @@ no_upper_within i h = rw (lt-ltb 0 i (some i h), ne_eqb (i % 4096) 0 h)
     some : (i : ℕ) → (i % 4096 ≡ 0 → ⊥) → 0 < i
     some zero g = absurd (g refl)
     some (suc i) g = omega arith
-
--- A data record in the order in which it is put.
-pub data_line_is : (address count total : ℕ) (bytes : List ℕ)
-    → length bytes ≡ 4 * count
-    → total ≡ sum bytes
-    → record_line 0 address bytes
-    ≡ (58 ∷ pairs (head_bytes (4 * count) address 0))
-    ++ pairs bytes
-    ++ (digits_of (sum_byte (4 * count + (address / 256 + address % 256) + total)) ++ (10 ∷ []))
-unfolding record_line
-data_line_is address count total bytes n t =
-    let s : 4 * count + (address / 256 + (address % 256 + 0)) + sum bytes ≡ 4 * count + (address / 256 + address % 256) + total = omega arith in
-    rw (n, s)
 
 pub count_small : (n i : ℕ) → row_count n i ≤ 4
 count_small n i = go (ltb (n - 4 * i) 4) refl
@@ -218,3 +206,25 @@ exported_length_is main =
         let m = (length main + 3) / 4 - 1 in
         let k : (length main + 3) / 4 ≡ suc m = omega arith in
         rw (k, ne_eqb (length main) 0 (λ z. omega arith)) (omega (arith, rows_length m main))
+
+pub upper_before_small : (i : ℕ) → length (upper_before i) ≤ 16
+unfolding upper_before
+upper_before_small i = go (ltb 0 i && eqb (i % 4096) 0)
+  where
+    go : (t : Bool) → length (cond t (upper_line (i / 4096)) []) ≤ 16
+    go true = omega (arith, upper_length (i / 4096))
+    go false = omega arith
+
+-- The words of row i, up to the last of them or of main.
+pub row_words_at : (i : ℕ) (main : List ℕ) (last : ℕ) → 4 * i ≤ length main → last ≡ min (length main) (4 * i + 4) → take (last - 4 * i) (drop (4 * i) main) ≡ row_words i main
+row_words_at i main last h e = go (leb (4 * i + 4) (length main)) refl
+  where
+    go : (t : Bool) → leb (4 * i + 4) (length main) ≡ t → take (last - 4 * i) (drop (4 * i) main) ≡ row_words i main
+    go true f =
+        let l = leb-true (4 * i + 4) (length main) f in
+        let n : last - 4 * i ≡ 4 = omega arith in
+        rw n
+    go false f =
+        let l = leb-false (4 * i + 4) (length main) f in
+        let d = length-drop (4 * i) main in
+        rw (take_all (last - 4 * i) (drop (4 * i) main) (omega arith), take_all 4 (drop (4 * i) main) (omega arith))

@@ -6,18 +6,20 @@ use mathlib.Core.Path.{◌≡◌, refl, ap, ◌∙◌}
 use mathlib.Core.Bool.{Bool, true, false}
 use mathlib.Core.List.{List, [], ◌∷◌, ◌++◌, append_assoc}
 use native.Mathlib.Omega.{arith}
+use Rattle.std.specs.Prelude.{sum}
+use Rattle.std.proofs.lemmas.List.Sums.{sum_by_from, sum_by_push}
 use lib.Dec.{ltb}
 use lib.ListN.{length, drop, length-append}
 use lib.Seq.{drop_at, drop-drop}
 use borrow.Author.Tests.{ltb-true, lt-ltb}
 use Rattle.text.proofs.ReadBack.{digit_again}
 use Rattle.intel_hex.specs.Digits.{digits_of, byte}
-use Rattle.intel_hex.specs.Layout.{pairs, sum, sum_byte, head_bytes, record_line, word_bytes}
+use Rattle.intel_hex.specs.Layout.{pairs, sum_byte, head_bytes, record_line, word_bytes}
 use Rattle.intel_hex.specs.Lines.{bytes, all_bytes, summed, count_of, address_of, type_of, size_of, well_formed, by_type, layout_of, line_of}
 use Rattle.intel_hex.specs.Imported.{word_of}
 use Rattle.intel_hex.specs.Returns.{first_choice, other_choices, with_returns}
-use Rattle.intel_hex.proofs.Bytes.{and_true, both, summed_is}
-use Rattle.intel_hex.proofs.Lengths.{pairs_append, pairs_length, sum_append}
+use Rattle.intel_hex.proofs.Bytes.{and_true, all_append, both, summed_is}
+use Rattle.intel_hex.proofs.Lengths.{pairs_append, pairs_length}
 use Rattle.intel_hex.proofs.Returns.{feed, feed_size, feed_ends, feed_some, after_feed, feed_chosen, others_stay, pairs_stay}
 
 pub byte_again : (x : ℕ) (more : List ℕ) → x < 256 → byte (digits_of x ++ more) ≡ x
@@ -35,12 +37,6 @@ bytes_again [] rest e = refl
 bytes_again (b ∷ bs) rest e =
     let t = and_true (ltb b 256) (all_bytes bs) e in
     rw (byte_again b (pairs bs ++ rest) (ltb-true b 256 t.0), bytes_again bs rest t.1)
-
-pub all_append : (a b : List ℕ) → all_bytes a ≡ true → all_bytes b ≡ true → all_bytes (a ++ b) ≡ true
-all_append [] b e f = f
-all_append (x ∷ a) b e f =
-    let t = and_true (ltb x 256) (all_bytes a) e in
-    rw t.0 (all_append a b t.1 f)
 
 sum_byte_small : (total : ℕ) → sum_byte total < 256
 unfolding sum_byte
@@ -114,12 +110,13 @@ module _ (type address : ℕ) (bs : List ℕ) (return : Bool) (rest : List ℕ) 
       let total = sum (head_bytes (length bs) address type) + sum bs in
       rw (← all_length, bytes_again all (feed return rest) all_good)
       (summed_is all all_good
-      ∙ closes (sum_append bs (sum_of type address bs ∷ [])))
+      ∙ closes (sum_by_push (λ x. x) bs (sum_of type address bs)))
     where
-      closes : sum (bs ++ (sum_of type address bs ∷ [])) ≡ sum bs + (sum_of type address bs + 0) → sum (all_of type address bs) % 256 ≡ 0
+      closes : sum (bs ++ (sum_of type address bs ∷ [])) ≡ sum bs + sum_of type address bs → sum (all_of type address bs) % 256 ≡ 0
       closes e =
-          let t = sum (head_bytes (length bs) address type) + sum bs in
-          omega (arith, e, sum_byte_closes t)
+          let head = sum (head_bytes (length bs) address type) in
+          let f = sum_by_from (λ x. x) head (bs ++ (sum_of type address bs ∷ [])) in
+          omega (arith, e, f, sum_byte_closes (head + sum bs))
 
   after_signs : drop (11 + 2 * length bs) (signs type address bs return rest) ≡ feed return rest
   after_signs =

@@ -7,7 +7,7 @@ use mathlib.Core.Bool.{Bool, true, false, ◌||◌}
 use mathlib.Core.List.{List, [], ◌∷◌, ◌++◌, append_assoc, append-nil}
 use native.Mathlib.Omega.{arith}
 use native.Mathlib.Nat.{add-zero}
-use Rattle.std.specs.Prelude.{Ok}
+use Rattle.std.specs.Prelude.{Some, Ok}
 use lib.Dec.{leb, eqb}
 use lib.ListN.{length, take, drop, set, length-append, drop_of_length-le}
 use lib.Seq.{drop-drop, get_or-drop, set-append_seam, append_snoc}
@@ -16,7 +16,7 @@ use Rattle.intel_hex.specs.Digits.{digits_of, byte}
 use Rattle.intel_hex.specs.Layout.{pairs, record_line, data_bytes}
 use Rattle.intel_hex.specs.Exported.{upper_line, end_line, upper_before, row_words, row, rows, exported}
 use Rattle.intel_hex.specs.Lines.{all_bytes, size_of, data_line, end_of, upper_of, by_type, line_of}
-use Rattle.intel_hex.specs.Imported.{words_from, named, has_words, turn_of, good, text_of, stored, import_answer, main_after}
+use Rattle.intel_hex.specs.Imported.{words_from, named, has_words, turn_of, text_of, stored, import_answer, main_after}
 use Rattle.intel_hex.specs.Returns.{first_choice, other_choices, with_returns}
 use Rattle.intel_hex.specs.declared.lines.Span.{Span}
 use Rattle.intel_hex.specs.declared.lines.Line.TheVariants.{Data, Upper, End}
@@ -68,7 +68,7 @@ words_again (w ∷ words) rest p r =
 
 -- A good text that names these words, whatever carriage returns are put before its line feeds.
 abbrev pub Gives : ℕ → ℕ → List ℕ → List (ℕ × ℕ) → Type 0
-Gives room base text words = (choices : List Bool) → text_of room base (with_returns choices text) ≡ good words
+Gives room base text words = (choices : List Bool) → text_of room base (with_returns choices text) ≡ Ok words
 
 -- A type 04 record sets where the 64 KiB start.
 upper_again : (room base u : ℕ) (rest : List ℕ) (ws : List (ℕ × ℕ)) → u < 65536
@@ -84,8 +84,8 @@ upper_again room base u rest ws h q choices =
     let high : byte (drop 9 t) ≡ u / 256 = byte_again (u / 256) _ (omega arith) in
     let low : byte (drop 11 t) ≡ u % 256 = byte_again (u % 256) _ (omega arith) in
     let v : 256 * (u / 256) + u % 256 ≡ u = omega arith in
-    let l : line_of t ≡ Upper (16384 * u) = line_again 4 0 bs return more (omega arith) (omega arith) (omega arith) d ∙ rw (high, low, v) in
-    let o : turn_of room base (line_of t) ≡ On (16384 * u) = rw l in
+    let l : line_of t ≡ Some (Upper (16384 * u)) = line_again 4 0 bs return more (omega arith) (omega arith) (omega arith) d ∙ rw (high, low, v) in
+    let o : turn_of room base (line_of t) ≡ Some (On (16384 * u)) = rw l in
     rw (signs_with_returns choices 4 0 bs rest)
     (text_on room base t o
     ∙ rw (l, rest_again 4 0 bs return more (omega arith) (omega arith) (omega arith) d, q (other_choices choices)))
@@ -100,11 +100,11 @@ end_again room base choices =
     long true = refl
     long false = refl
 
-    go : (return : Bool) → text_of room base (signs 1 0 [] return []) ≡ good []
+    go : (return : Bool) → text_of room base (signs 1 0 [] return []) ≡ Ok []
     go return =
         let t = signs 1 0 [] return [] in
-        let l : line_of t ≡ End = line_again 1 0 [] return [] (omega arith) (omega arith) (omega arith) refl in
-        let o : turn_of room base (line_of t) ≡ Ended = rw l in
+        let l : line_of t ≡ Some End = line_again 1 0 [] return [] (omega arith) (omega arith) (omega arith) refl in
+        let o : turn_of room base (line_of t) ≡ Some Ended = rw l in
         let n : length t ≡ size_of t = long return ∙ sym (size_again 1 0 [] return [] (omega arith) (omega arith) (omega arith) refl) in
         ended_good room base t o n
 
@@ -137,12 +137,12 @@ data_again room base address words rest ws a m f c r i y choices =
     let s : Span = record { first = address / 4; words = length words } in
     let q : length bs % 4 ≡ 0 = omega arith in
     let w : length bs / 4 ≡ length words = omega arith in
-    let l : line_of t ≡ Data s =
+    let l : line_of t ≡ Some (Data s) =
     line_again 0 address bs return more (omega arith) a k (data_all words)
     ∙ rw (q, m, le-leb (address + length bs) 65536 (omega arith), w)
     in
     let g : has_words room base (Data s) ≡ true = fits (length words) r in
-    let o : turn_of room base (line_of t) ≡ On base = rw (l, g) in
+    let o : turn_of room base (line_of t) ≡ Some (On base) = rw (l, g) in
     let d : named base (line_of t) t ≡ placed (base + address / 4) words = rw l (named_signs words return more address (base + address / 4) i) in
     rw (signs_with_returns choices 0 address bs rest)
     (text_on room base t o

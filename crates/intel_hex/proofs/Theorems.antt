@@ -2,11 +2,11 @@
 -- the words back, words not named stay, and of a word named twice the last value stays.
 -- Assumes nothing.
 use Prim.Native.Nat.{ℕ, zero, suc, ◌+◌, ◌*◌, ◌≤◌, ◌<◌}
-use mathlib.Core.Path.{◌≡◌, refl, ap, sym, ◌∙◌}
+use mathlib.Core.Path.{◌≡◌, refl, sym, ◌∙◌}
 use mathlib.Core.Bool.{Bool, true, false, cond, ◌||◌}
 use mathlib.Core.List.{List, [], ◌∷◌, ◌++◌}
 use native.Mathlib.Omega.{arith}
-use Rattle.std.specs.Prelude.{Result, Ok, Err}
+use Rattle.std.specs.Prelude.{Option, Some, None, Result, Ok, Err}
 use lib.Dec.{eqb, ltb}
 use lib.ListN.{length, get_or, take, drop, set, length-set, length-drop}
 use lib.Seq.{take_at, get_or-set_same, get_or-set_other}
@@ -14,8 +14,8 @@ use borrow.Author.Tests.{eqb-false, ltb-false, le-ltb}
 use Rattle.intel_hex.specs.Exported.{exported, exported_length, export_answer, out_after, Exports}
 use Rattle.intel_hex.specs.Lines.{size_of, line_of}
 use Rattle.intel_hex.specs.declared.importing.Turn.{Turn}
-use Rattle.intel_hex.specs.declared.importing.Turn.TheVariants.{On, Ended, Bad}
-use Rattle.intel_hex.specs.Imported.{named, turn_of, Text, good, bad, after_line, text_in, text_of, stored, verdict, answer, import_answer, used_after, Imports}
+use Rattle.intel_hex.specs.declared.importing.Turn.TheVariants.{On, Ended}
+use Rattle.intel_hex.specs.Imported.{named, turn_of, Text, after_line, text_in, text_of, stored, verdict, answer, import_answer, used_after, Imports}
 use Rattle.intel_hex.specs.Returns.{with_returns}
 use Rattle.intel_hex.specs.declared.exporting.ExportRefusal.{ExportRefusal}
 use Rattle.intel_hex.specs.declared.importing.ImportRefusal.{ImportRefusal}
@@ -108,8 +108,8 @@ accepted_starts_again {main} {text} {after} {count} i = go (ltb 1048576 (length 
   where
     go : (long : Bool) (x : Text) → Ok count ≡ cond long (Err MainTooLong) (answer (verdict x)) → count ≡ 0
     go true x e = clash (cc)
-    go false (good words) e = cc
-    go false (bad n) e = clash (cc)
+    go false (Ok words) e = cc
+    go false (Err n) e = clash (cc)
 
 -- Whether a word is named.
 abbrev pub names : ℕ → List (ℕ × ℕ) → Bool
@@ -136,40 +136,40 @@ last_named_counts (w ∷ first) p v words main h e =
     last_named_counts first p v words (set main w.0 w.1) (rw (length-set main w.0 w.1) h) e
 
 -- The first bad line: every line before it has at least twelve bytes.
-bad_in : (k room base : ℕ) (t : List ℕ) (n : ℕ) → length t < k → text_in k room base t ≡ bad n → 12 * n ≤ length t + 12
+bad_in : (k room base : ℕ) (t : List ℕ) (n : ℕ) → length t < k → text_in k room base t ≡ Err n → 12 * n ≤ length t + 12
 unfolding text_in
 bad_in zero room base t n h e = absurd (omega arith)
 bad_in (suc k) room base t n h e = go (turn_of room base (line_of t)) refl e (λ b m. bad_in k room b (drop (size_of t) t) m)
   where
-    one : bad 1 ≡ bad n → n ≡ 1
+    one : ◌≡◌ {A = Text} (Err 1) (Err n) → n ≡ 1
     one q = cc
 
-    two : bad 2 ≡ bad n → n ≡ 2
+    two : ◌≡◌ {A = Text} (Err 2) (Err n) → n ≡ 2
     two q = cc
 
-    go : (turn : Turn) → turn_of room base (line_of t) ≡ turn
-        → text_in (suc k) room base t ≡ bad n
-        → ((b m : ℕ) → length (drop (size_of t) t) < k → text_in k room b (drop (size_of t) t) ≡ bad m → 12 * m ≤ length (drop (size_of t) t) + 12)
+    go : (turn : Option Turn) → turn_of room base (line_of t) ≡ turn
+        → text_in (suc k) room base t ≡ Err n
+        → ((b m : ℕ) → length (drop (size_of t) t) < k → text_in k room b (drop (size_of t) t) ≡ Err m → 12 * m ≤ length (drop (size_of t) t) + 12)
         → 12 * n ≤ length t + 12
-    go Bad q f rest = omega (arith, one (rw q at f))
-    go Ended q f rest = ended (eqb (length (drop (size_of t) t)) 0) refl (rw q at f)
+    go None q f rest = omega (arith, one (rw q at f))
+    go (Some Ended) q f rest = ended (eqb (length (drop (size_of t) t)) 0) refl (rw q at f)
       where
-        ended : (b : Bool) → eqb (length (drop (size_of t) t)) 0 ≡ b → cond b (good []) (bad 2) ≡ bad n → 12 * n ≤ length t + 12
+        ended : (b : Bool) → eqb (length (drop (size_of t) t)) 0 ≡ b → ◌≡◌ {A = Text} (cond b (Ok []) (Err 2)) (Err n) → 12 * n ≤ length t + 12
         ended true g f = clash (cc)
         ended false g f =
             omega (arith, two f, ended_twelve room base t q, length-drop (size_of t) t)
-    go (On b) q f rest = on (text_in k room b (drop (size_of t) t)) refl (rw q at f)
+    go (Some (On b)) q f rest = on (text_in k room b (drop (size_of t) t)) refl (rw q at f)
       where
-        on : (x : Text) → text_in k room b (drop (size_of t) t) ≡ x → after_line (named base (line_of t) t) x ≡ bad n → 12 * n ≤ length t + 12
-        on (good ws) g f = clash (cc)
-        on (bad m) g f =
+        on : (x : Text) → text_in k room b (drop (size_of t) t) ≡ x → after_line (named base (line_of t) t) x ≡ Err n → 12 * n ≤ length t + 12
+        on (Ok ws) g f = clash (cc)
+        on (Err m) g f =
             let s : suc m ≡ n = cc in
             let w = on_twelve room base t q in
             let d = length-drop (size_of t) t in
             omega (arith, rest b m (omega arith) g)
 
 -- So its number is at most a twelfth of the length, and one.
-pub bad_line_bound : (room base : ℕ) (t : List ℕ) (n : ℕ) → text_of room base t ≡ bad n → 12 * n ≤ length t + 12
+pub bad_line_bound : (room base : ℕ) (t : List ℕ) (n : ℕ) → text_of room base t ≡ Err n → 12 * n ≤ length t + 12
 unfolding text_of
 bad_line_bound room base t n e = bad_in (suc (length t)) room base t n (omega arith) e
 
@@ -183,9 +183,9 @@ refused_at_first_bad_line {main} {text} {n = n} i e = go (ltb 1048576 (length ma
   where
     go : (long : Bool) (x : Text) → text_of (length main) 0 text ≡ x → cond long (Err MainTooLong) (answer (verdict x)) ≡ Err (BadText n) → BadAt (length main) 0 text n
     go true x p q = clash (cc)
-    go false (good words) p q = clash (cc)
-    go false (bad m) p q =
-        let same : bad m ≡ bad n = cc in
+    go false (Ok words) p q = clash (cc)
+    go false (Err m) p q =
+        let same : ◌≡◌ {A = Text} (Err m) (Err n) = cc in
         bad_is_bad_at (length main) 0 text n (p ∙ same)
 
 pub first_bad_line_refused : {main text after : List ℕ} {n : ℕ} {r : Result ℕ ImportRefusal}

@@ -5,18 +5,18 @@ use mathlib.Core.Path.{◌≡◌, refl, ap, ◌∙◌}
 use mathlib.Core.Bool.{Bool, true, false, cond}
 use mathlib.Core.List.{List, [], ◌∷◌, ◌++◌}
 use native.Mathlib.Omega.{arith}
-use Rattle.std.specs.Prelude.{Result, Ok, Err}
+use Rattle.std.specs.Prelude.{Option, Some, None, Result, Ok, Err}
 use lib.Dec.{eqb}
 use lib.ListN.{length, get_or, drop, set, length-set}
 use Rattle.intel_hex.specs.Lines.{bytes, all_bytes, size_of, line_of}
-use Rattle.intel_hex.specs.Imported.{word_of, words_from, named, turn_of, base_after, Text, good, bad, then_lines, text_in, text_of, stored, words_in, import_answer, main_after, Imports}
+use Rattle.intel_hex.specs.Imported.{word_of, words_from, named, turn_of, base_after, Text, then_lines, text_in, text_of, stored, words_in, import_answer, main_after, Imports}
 use Rattle.intel_hex.specs.declared.lines.Line.{Line}
-use Rattle.intel_hex.specs.declared.lines.Line.TheVariants.{Data, Upper, End, IllFormed}
+use Rattle.intel_hex.specs.declared.lines.Line.TheVariants.{Data, Upper, End}
 use Rattle.intel_hex.specs.declared.importing.Turn.{Turn}
-use Rattle.intel_hex.specs.declared.importing.Turn.TheVariants.{On, Ended, Bad}
+use Rattle.intel_hex.specs.declared.importing.Turn.TheVariants.{On, Ended}
 use Rattle.intel_hex.specs.declared.importing.ImportRefusal.{ImportRefusal}
 use Rattle.intel_hex.proofs.Bytes.{each_byte}
-use Rattle.intel_hex.proofs.Texts.{bytes_of_word, bytes_of_rest, data_bytes_there}
+use Rattle.intel_hex.proofs.Texts.{first_word, later_words, data_bytes_there}
 
 -- Every word is one of 32 bits.
 abbrev pub in_range : List ℕ → Type 0
@@ -47,25 +47,28 @@ word_in_range signs e =
 
 words_from_in_range : (count place : ℕ) (signs : List ℕ) → all_bytes (bytes (4 * count) signs) ≡ true → placed_in_range (words_from count place signs)
 words_from_in_range zero place signs e k = none_in_range k
-words_from_in_range (suc count) place signs e zero = word_in_range signs (bytes_of_word signs 0 (suc count) (omega arith) e)
-words_from_in_range (suc count) place signs e (suc k) = words_from_in_range count (suc place) (drop 8 signs) (bytes_of_rest signs 0 count e) k
+words_from_in_range (suc count) place signs e zero = word_in_range signs (first_word signs (suc count) (omega arith) e)
+words_from_in_range (suc count) place signs e (suc k) =
+    let n : suc count ≡ 1 + count = omega arith in
+    let e' : all_bytes (bytes (4 * (1 + count)) signs) ≡ true = rw n at e in
+    words_from_in_range count (suc place) (drop 8 signs) (later_words signs 1 count e') k
 
-line_in_range : (base : ℕ) (t : List ℕ) (l : Line) → line_of t ≡ l → placed_in_range (named base l t)
-line_in_range base t (Data s) e = words_from_in_range s.words (base + s.first) (drop 9 t) (data_bytes_there t s e)
-line_in_range base t (Upper b) e = none_in_range
-line_in_range base t End e = none_in_range
-line_in_range base t IllFormed e = none_in_range
+line_in_range : (base : ℕ) (t : List ℕ) (l : Option Line) → line_of t ≡ l → placed_in_range (named base l t)
+line_in_range base t (Some (Data s)) e = words_from_in_range s.words (base + s.first) (drop 9 t) (data_bytes_there t s e)
+line_in_range base t (Some (Upper b)) e = none_in_range
+line_in_range base t (Some End) e = none_in_range
+line_in_range base t None e = none_in_range
 
-lines_in_range : (turn : Turn) (words : List (ℕ × ℕ)) (rest : List ℕ) (more : Text) → placed_in_range words → placed_in_range (words_in more)
+lines_in_range : (turn : Option Turn) (words : List (ℕ × ℕ)) (rest : List ℕ) (more : Text) → placed_in_range words → placed_in_range (words_in more)
     → placed_in_range (words_in (then_lines turn words rest more))
-lines_in_range Bad words rest more p q = none_in_range
-lines_in_range Ended words rest more p q = go (eqb (length rest) 0)
+lines_in_range None words rest more p q = none_in_range
+lines_in_range (Some Ended) words rest more p q = go (eqb (length rest) 0)
   where
-    go : (b : Bool) → placed_in_range (words_in (cond b (good []) (bad 2)))
+    go : (b : Bool) → placed_in_range (words_in (cond b (Ok []) (Err 2)))
     go true = none_in_range
     go false = none_in_range
-lines_in_range (On base) words rest (good more) p q = append_in_range words more p q
-lines_in_range (On base) words rest (bad n) p q = none_in_range
+lines_in_range (Some (On base)) words rest (Ok more) p q = append_in_range words more p q
+lines_in_range (Some (On base)) words rest (Err n) p q = none_in_range
 
 in_range_in : (k room base : ℕ) (t : List ℕ) → placed_in_range (words_in (text_in k room base t))
 unfolding text_in

@@ -6,12 +6,13 @@ use Prim.Native.Nat.{ℕ}
 use Prim.Native.Char.{code}
 use Prim.Native.String.{String, [] as end, ◌∷◌ as ◌then◌}
 use mathlib.Core.List.{List, [], ◌∷◌}
+use Rattle.std.specs.Prelude.{Ok, Err}
 use Rattle.text.specs.Digits.{digit_value}
 use Rattle.intel_hex.specs.Digits.{byte_of, byte}
 use Rattle.intel_hex.specs.Layout.{sum_byte, record_line}
 use Rattle.intel_hex.specs.Exported.{upper_line, end_line, upper_before, rows, exported}
 use Rattle.intel_hex.specs.Lines.{summed, ending_of, ending, size_of, well_formed, data_line, end_of, upper_of, by_type, layout_of, line_of}
-use Rattle.intel_hex.specs.Imported.{word_of, good, bad, text_in, text_of}
+use Rattle.intel_hex.specs.Imported.{word_of, text_in, text_of}
 use Rattle.intel_hex.specs.Returns.{with_returns}
 
 abbrev text : String → List ℕ
@@ -36,21 +37,21 @@ one_return_put = refl
 -- Two records that name word 1: both in order, the second with a carriage return.
 pub named_twice :
     text_of 8 0 (text ":0400040000000001F7\n:040004000000000AEE\r\n:00000001FF\n")
-    ≡ good ((1, 1) ∷ (1, 10) ∷ [])
+    ≡ Ok ((1, 1) ∷ (1, 10) ∷ [])
 unfolding text_of text_in line_of layout_of by_type data_line end_of upper_of well_formed size_of ending ending_of summed byte byte_of digit_value word_of
 named_twice = refl
 
 -- The second line's sum is wrong.
-pub second_line_bad : text_of 8 0 (text ":0400040000000001F7\n:040004000000000AEF\n:00000001FF\n") ≡ bad 2
+pub second_line_bad : text_of 8 0 (text ":0400040000000001F7\n:040004000000000AEF\n:00000001FF\n") ≡ Err 2
 unfolding text_of text_in line_of layout_of by_type data_line end_of upper_of well_formed size_of ending ending_of summed byte byte_of digit_value word_of
 second_line_bad = refl
 
 -- No end record: the line after the last is bad.
-pub no_end_record : text_of 8 0 (text ":0400040000000001F7\n") ≡ bad 2
+pub no_end_record : text_of 8 0 (text ":0400040000000001F7\n") ≡ Err 2
 unfolding text_of text_in line_of layout_of by_type data_line end_of upper_of well_formed size_of ending ending_of summed byte byte_of digit_value word_of
 no_end_record = refl
 
 -- Main lacks word 8.
-pub word_lacking : text_of 8 0 (text ":0400200000000001DB\n:00000001FF\n") ≡ bad 1
+pub word_lacking : text_of 8 0 (text ":0400200000000001DB\n:00000001FF\n") ≡ Err 1
 unfolding text_of text_in line_of layout_of by_type data_line end_of upper_of well_formed size_of ending ending_of summed byte byte_of digit_value word_of
 word_lacking = refl

@@ -1,12 +1,12 @@
 -- The import (document 02, W4): a text judged line by line, the words that it names, and main after it.
 -- Assumes nothing.
-use Rattle.std.specs.Prelude.{ℕ, zero, suc, ◌+◌, ◌*◌, ◌≡◌, Bool, true, cond, ◌||◌, List, [], ◌∷◌, ◌++◌, leb, ltb, eqb, length, drop, set, Result, Ok, Err}
+use Rattle.std.specs.Prelude.{ℕ, zero, suc, ◌+◌, ◌*◌, ◌≡◌, Bool, true, cond, ◌||◌, List, [], ◌∷◌, ◌++◌, leb, ltb, eqb, length, drop, set, Option, Some, None, Result, Ok, Err}
 use Rattle.intel_hex.specs.Digits.{byte}
 use Rattle.intel_hex.specs.Lines.{size_of, line_of}
 use Rattle.intel_hex.specs.declared.lines.Line.{Line}
-use Rattle.intel_hex.specs.declared.lines.Line.TheVariants.{Data, Upper, End, IllFormed}
+use Rattle.intel_hex.specs.declared.lines.Line.TheVariants.{Data, Upper, End}
 use Rattle.intel_hex.specs.declared.importing.Turn.{Turn}
-use Rattle.intel_hex.specs.declared.importing.Turn.TheVariants.{On, Ended, Bad}
+use Rattle.intel_hex.specs.declared.importing.Turn.TheVariants.{On, Ended}
 use Rattle.intel_hex.specs.declared.importing.BadLine.{BadLine}
 use Rattle.intel_hex.specs.declared.importing.ImportRefusal.{ImportRefusal}
 use Rattle.intel_hex.specs.declared.importing.ImportRefusal.TheVariants.{MainTooLong, BadText}
@@ -21,50 +21,48 @@ words_from zero place signs = []
 words_from (suc k) place signs = (place, word_of signs) ∷ words_from k (suc place) (drop 8 signs)
 
 -- The words that a line names, where the 64 KiB of the last type 04 record start at `base`.
-abbrev pub named : ℕ → Line → List ℕ → List (ℕ × ℕ)
-named base (Data s) line = words_from s.words (base + s.first) (drop 9 line)
-named base (Upper b) line = []
-named base End line = []
-named base IllFormed line = []
+abbrev pub named : ℕ → Option Line → List ℕ → List (ℕ × ℕ)
+named base (Some (Data s)) line = words_from s.words (base + s.first) (drop 9 line)
+named base (Some (Upper b)) line = []
+named base (Some End) line = []
+named base None line = []
 
 -- Whether main has every word that a line names.
 abbrev pub has_words : ℕ → ℕ → Line → Bool
 has_words room base (Data s) = eqb s.words 0 || leb (base + s.first + s.words) room
 has_words room base (Upper b) = true
 has_words room base End = true
-has_words room base IllFormed = true
 
--- How a text goes on after a line: with the start of the 64 KiB that count from there, at its end, or not.
-abbrev pub turn_of : ℕ → ℕ → Line → Turn
-turn_of room base (Data s) = cond (has_words room base (Data s)) (On base) Bad
-turn_of room base (Upper b) = On b
-turn_of room base End = Ended
-turn_of room base IllFormed = Bad
+-- How a text goes on after a line, if the line is good: with the start of the 64 KiB that count from there, or at its end.
+abbrev pub turn_of : ℕ → ℕ → Option Line → Option Turn
+turn_of room base (Some (Data s)) = cond (has_words room base (Data s)) (Some (On base)) None
+turn_of room base (Some (Upper b)) = Some (On b)
+turn_of room base (Some End) = Some Ended
+turn_of room base None = None
 
-abbrev pub base_after : Turn → ℕ
-base_after (On base) = base
-base_after Ended = 0
-base_after Bad = 0
+abbrev pub base_after : Option Turn → ℕ
+base_after (Some (On base)) = base
+base_after (Some Ended) = 0
+base_after None = 0
 
 -- The words that a text names, in order, or its first bad line from 1.
-pub data Text : Type 0 where
-  good : List (ℕ × ℕ) → Text
-  bad : ℕ → Text
+abbrev pub Text : Type 0
+Text = Result (List (ℕ × ℕ)) ℕ
 
 -- A good line that names these words, then the text after it.
 abbrev pub after_line : List (ℕ × ℕ) → Text → Text
-after_line words (good more) = good (words ++ more)
-after_line words (bad n) = bad (suc n)
+after_line words (Ok more) = Ok (words ++ more)
+after_line words (Err n) = Err (suc n)
 
 -- A line by its turn: the words that it names, the bytes after it, and what they are as a text.
-abbrev pub then_lines : Turn → List (ℕ × ℕ) → List ℕ → Text → Text
-then_lines Bad words rest more = bad 1
-then_lines Ended words rest more = cond (eqb (length rest) 0) (good []) (bad 2)
-then_lines (On base) words rest more = after_line words more
+abbrev pub then_lines : Option Turn → List (ℕ × ℕ) → List ℕ → Text → Text
+then_lines None words rest more = Err 1
+then_lines (Some Ended) words rest more = cond (eqb (length rest) 0) (Ok []) (Err 2)
+then_lines (Some (On base)) words rest more = after_line words more
 
 -- A text of fewer than k bytes.
 unfoldable pub text_in : ℕ → ℕ → ℕ → List ℕ → Text
-text_in zero room base text = bad 1
+text_in zero room base text = Err 1
 text_in (suc k) room base text =
     let turn = turn_of room base (line_of text) in
     let rest = drop (size_of text) text in
@@ -81,12 +79,12 @@ stored [] main = main
 stored (w ∷ words) main = stored words (set main w.0 w.1)
 
 abbrev pub words_in : Text → List (ℕ × ℕ)
-words_in (good words) = words
-words_in (bad n) = []
+words_in (Ok words) = words
+words_in (Err n) = []
 
 abbrev pub verdict : Text → Result Unit BadLine
-verdict (good words) = Ok tt
-verdict (bad n) = Err (record { 0 = n })
+verdict (Ok words) = Ok tt
+verdict (Err n) = Err (record { 0 = n })
 
 -- No byte of the trail is in use after a good text.
 abbrev pub answer : Result Unit BadLine → Result ℕ ImportRefusal

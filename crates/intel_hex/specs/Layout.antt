@@ -1,6 +1,6 @@
 -- A record of Intel HEX: a colon, then in pairs of digits the count, the address, the type, the data and the sum.
 -- Assumes nothing.
-use Rattle.std.specs.Prelude.{ℕ, ◌+◌, ◌-◌, ◌/◌, ◌%◌, List, [], ◌∷◌, ◌++◌, length}
+use Rattle.std.specs.Prelude.{ℕ, ◌+◌, ◌-◌, ◌/◌, ◌%◌, List, [], ◌∷◌, ◌++◌, length, sum}
 use Prim.Native.Char.{code}
 use Rattle.intel_hex.specs.Digits.{digits_of}
 
@@ -8,10 +8,6 @@ use Rattle.intel_hex.specs.Digits.{digits_of}
 abbrev pub pairs : List ℕ → List ℕ
 pairs [] = []
 pairs (b ∷ bytes) = digits_of b ++ pairs bytes
-
-abbrev pub sum : List ℕ → ℕ
-sum [] = 0
-sum (b ∷ bytes) = b + sum bytes
 
 -- The last byte of a record: with it all bytes add up to 0 modulo 256.
 unfoldable pub sum_byte : ℕ → ℕ

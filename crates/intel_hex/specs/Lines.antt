@@ -1,11 +1,10 @@
 -- One line of an import: a record in the standard's layout, then perhaps a carriage return, then a line feed.
 -- Assumes nothing.
-use Rattle.std.specs.Prelude.{ℕ, zero, suc, ◌+◌, ◌*◌, ◌/◌, ◌%◌, Bool, true, cond, ◌&&◌, List, [], ◌∷◌, leb, ltb, eqb, get_or, drop}
+use Rattle.std.specs.Prelude.{ℕ, zero, suc, ◌+◌, ◌*◌, ◌/◌, ◌%◌, Bool, true, cond, ◌&&◌, List, [], ◌∷◌, leb, ltb, eqb, get_or, drop, sum, Option, Some, None}
 use Prim.Native.Char.{code}
 use Rattle.intel_hex.specs.Digits.{byte}
-use Rattle.intel_hex.specs.Layout.{sum}
 use Rattle.intel_hex.specs.declared.lines.Line.{Line}
-use Rattle.intel_hex.specs.declared.lines.Line.TheVariants.{Data, Upper, End, IllFormed}
+use Rattle.intel_hex.specs.declared.lines.Line.TheVariants.{Data, Upper, End}
 
 -- What k pairs of digits stand for; a pair that is none is 256.
 abbrev pub bytes : ℕ → List ℕ → List ℕ
@@ -41,6 +40,10 @@ ending_of a b = cond (eqb a (code "\n")) 1 (cond (eqb a (code "\r") && eqb b (co
 unfoldable pub ending : List ℕ → ℕ
 ending rest = ending_of (get_or rest 0 0) (get_or rest 1 0)
 
+-- That number, if there is an ending.
+abbrev pub some_ending : ℕ → Option ℕ
+some_ending n = cond (ltb 0 n) (Some n) None
+
 -- The bytes of a line, its ending with them.
 unfoldable pub size_of : List ℕ → ℕ
 size_of line = signs_of line + ending (drop (signs_of line) line)
@@ -53,31 +56,36 @@ well_formed line =
     && ltb 0 (ending (drop (signs_of line) line)))
 
 -- Type 00: count and address in whole words, and not past its 64 KiB.
-unfoldable pub data_line : ℕ → ℕ → Line
+unfoldable pub data_line : ℕ → ℕ → Option Line
 data_line count address =
     cond (eqb (count % 4) 0 && (eqb (address % 4) 0 && leb (address + count) 65536))
-    (Data (record { first = address / 4; words = count / 4 }))
-    IllFormed
+    (Some (Data (record { first = address / 4; words = count / 4 })))
+    None
 
 -- Type 01.
-unfoldable pub end_of : ℕ → ℕ → Line
-end_of count address = cond (eqb count 0 && eqb address 0) End IllFormed
+unfoldable pub end_of : ℕ → ℕ → Option Line
+end_of count address = cond (eqb count 0 && eqb address 0) (Some End) None
 
 -- Type 04: where the 64 KiB of an upper address start, in words.
-unfoldable pub upper_of : ℕ → ℕ → ℕ → Line
-upper_of count address upper = cond (eqb count 2 && eqb address 0) (Upper (16384 * upper)) IllFormed
+unfoldable pub upper_of : ℕ → ℕ → ℕ → Option Line
+upper_of count address upper = cond (eqb count 2 && eqb address 0) (Some (Upper (16384 * upper))) None
 
 -- What a record's type says.
-unfoldable pub by_type : ℕ → ℕ → ℕ → ℕ → Line
+unfoldable pub by_type : ℕ → ℕ → ℕ → ℕ → Option Line
 by_type type count address upper =
     cond (eqb type 0) (data_line count address)
     (cond (eqb type 1) (end_of count address)
     (cond (eqb type 4) (upper_of count address upper)
-    IllFormed))
+    None))
 
-unfoldable pub layout_of : List ℕ → Line
+unfoldable pub layout_of : List ℕ → Option Line
 layout_of line = by_type (type_of line) (count_of line) (address_of line) (256 * byte (drop 9 line) + byte (drop 11 line))
 
--- The first line of a text.
-unfoldable pub line_of : List ℕ → Line
-line_of text = cond (well_formed text) (layout_of text) IllFormed
+-- The first line of a text, if it is well-formed and its type says something.
+unfoldable pub line_of : List ℕ → Option Line
+line_of text = cond (well_formed text) (layout_of text) None
+
+-- What is read of a line, and the line's bytes.
+abbrev pub with_size : {A : Type 0} → List ℕ → Option A → Option (A × ℕ)
+with_size line (Some a) = Some (a, size_of line)
+with_size line None = None

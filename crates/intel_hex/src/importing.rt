@@ -1,18 +1,16 @@
 // Import (document 02, W4): the text is judged whole, then its words go to main.
 ghost use Rattle.std.specs.Prelude.{◌+◌, ◌*◌, ◌≤◌, ◌≡◌, true, length, drop};
-ghost use Rattle.intel_hex.specs.Digits.{byte};
-ghost use Rattle.intel_hex.specs.Lines.{bytes, all_bytes, size_of, line_of};
+ghost use Rattle.intel_hex.specs.Lines.{bytes, all_bytes, line_of, with_size};
 ghost use Rattle.intel_hex.specs.Imported.{word_of, words_from, named, has_words, turn_of, text_of, words_in, stored, verdict, Imports};
 
 use crate::MOST;
-use crate::lines::{Line, Span, byte_at, layout_at, line_at, size_at};
+use crate::lines::{Line, Span, byte_at, layout_at, line_at};
 
-// How a text goes on after a line: with the start of the 64 KiB that count from there, at its end, or not.
-#[derive(Clone, Copy)]
+// How a text goes on after a good line: with the start of the 64 KiB that count from there, or at its end.
+#[derive(Clone, Copy, Debug, PartialEq, Eq)]
 pub enum Turn {
     On(usize),
     Ended,
-    Bad,
 }
 
 // The first bad line of a text, from 1.
@@ -43,124 +41,105 @@ fn has_span(room: usize, base: usize, span: Span) -> bool
 {
     let first = span.first;
     let words = span.words;
-    if words == 0 {
-        return true;
-    }
-    if base > room {
-        return false;
-    }
-    if first > room - base {
-        return false;
-    }
-    words <= room - base - first
+    words == 0 || base <= room && first <= room - base && words <= room - base - first
 }
 
-fn turn_at(room: usize, base: usize, line: Line) -> Turn
-    ensures { result ≡ turn_of room base line }
+fn turn_at(room: usize, base: usize, line: Line) -> Option<Turn>
+    ensures { result ≡ turn_of room base (Some line) }
 {
     match line {
-        Line::Data(span) => {
-            if has_span(room, base, span) {
-                return Turn::On(base);
-            }
-            Turn::Bad
-        }
-        Line::Upper(start) => Turn::On(start),
-        Line::End => Turn::Ended,
-        Line::IllFormed => Turn::Bad,
+        Line::Data(span) if has_span(room, base, span) => Some(Turn::On(base)),
+        Line::Data(_) => None,
+        Line::Upper(start) => Some(Turn::On(start)),
+        Line::End => Some(Turn::Ended),
     }
+}
+
+// How a text goes on after its first line, and the bytes of that line, if it is good.
+fn first_turn(text: &[u8], room: usize, base: usize) -> Option<(Turn, usize)>
+    ensures { result ≡ with_size text.now (turn_of room base (line_of text.now)) }
+{
+    let (line, size) = line_at(text)?;
+    Some((turn_at(room, base, line)?, size))
 }
 
 // The answer for a main of `room` words.
 fn judge(text: &[u8], room: usize) -> Result<(), BadLine>
     ensures { result ≡ verdict (text_of room 0 text.now) }
 {
-    let mut at: usize = 0;
+    let mut rest = text;
     let mut base: usize = 0; // the upper address at first
     let mut lines: usize = 0;
     loop {
-        let turn = turn_at(room, base, line_at(text, at));
-        match turn {
-            Turn::Bad => return Err(BadLine(lines + 1)),
-            Turn::Ended => {
-                if at + size_at(text, at) == text.len() {
+        match first_turn(rest, room, base) {
+            None => return Err(BadLine(lines + 1)),
+            Some((Turn::Ended, size)) => {
+                if size == rest.len() {
                     return Ok(());
                 }
                 return Err(BadLine(lines + 2));
             }
-            Turn::On(start) => base = start,
+            Some((Turn::On(start), size)) => {
+                base = start;
+                rest = rest.split_at(size).1;
+                lines += 1;
+            }
         }
-        at += size_at(text, at);
-        lines += 1;
     }
 }
 
-// The word of eight digits of the text.
-fn word_at(text: &[u8], at: usize) -> u32
-    requires { all_bytes (bytes 4 (drop at text.now)) ≡ true }
-    ensures { result ≡ word_of (drop at text.now) }
+// The word of the first eight digits.
+fn word_of(text: &[u8]) -> u32
+    requires { all_bytes (bytes 4 text.now) ≡ true }
+    ensures { result ≡ word_of text.now }
 {
-    let a = byte_at(text, at);
-    let b = byte_at(text, at + 2);
-    let c = byte_at(text, at + 4);
-    let d = byte_at(text, at + 6);
-    (((a * 256 + b) * 256 + c) * 256 + d) as u32
+    u32::from_be_bytes([
+        byte_at(text, 0).unwrap(),
+        byte_at(text, 2).unwrap(),
+        byte_at(text, 4).unwrap(),
+        byte_at(text, 6).unwrap(),
+    ])
 }
 
 // `count` words of the text go to main from a place on.
-fn store_words(main: &mut [u32], place: usize, text: &[u8], at: usize, count: usize)
-    requires { (place + count ≤ length main.old) × (all_bytes (bytes (4 * count) (drop at text.now)) ≡ true) }
-    ensures { main.new ≡ stored (words_from count place (drop at text.now)) main.old }
+fn store_words(main: &mut [u32], place: usize, count: usize, text: &[u8])
+    requires { (place + count ≤ length main.old) × (all_bytes (bytes (4 * count) text.now) ≡ true) }
+    ensures { main.new ≡ stored (words_from count place text.now) main.old }
 {
-    let mut next = at;
-    let mut i: usize = 0;
-    while i < count {
-        main[place + i] = word_at(text, next);
-        next += 8;
-        i += 1;
+    for i in 0..count {
+        main[place + i] = word_of(text.split_at(8 * i).1);
     }
 }
 
 // The words that a line names go to main.
-fn store_line(main: &mut [u32], base: usize, line: Line, text: &[u8], at: usize)
-    requires { (at ≤ length text.now) × (line ≡ line_of (drop at text.now)) × (has_words (length main.old) base line ≡ true) }
-    ensures { main.new ≡ stored (named base line (drop at text.now)) main.old }
+fn store_line(main: &mut [u32], base: usize, line: Line, text: &[u8])
+    requires { (line_of text.now ≡ Some line) × (has_words (length main.old) base line ≡ true) }
+    ensures { main.new ≡ stored (named base (Some line) text.now) main.old }
 {
-    match line {
-        Line::Data(span) => {
-            let first = span.first;
-            let words = span.words;
-            if words == 0 {
-                return;
-            }
-            store_words(main, base + first, text, at + 9, words);
-            return;
+    if let Line::Data(span) = line {
+        if span.words > 0 {
+            store_words(main, base + span.first, span.words, text.split_at(9).1);
         }
-        Line::Upper(_) => return,
-        Line::End => return,
-        Line::IllFormed => return,
     }
 }
 
-// The words of a text that is not bad go to main: its lines are well-formed, so they are not summed again.
+// The words of a text that is not bad go to main: its lines are well-formed, so they are not summed again, as `judge` sums them.
 fn store(main: &mut [u32], text: &[u8])
     requires { verdict (text_of (length main.old) 0 text.now) ≡ Ok tt }
     ensures { main.new ≡ stored (words_in (text_of (length main.old) 0 text.now)) main.old }
 {
-    let mut at: usize = 0;
+    let mut rest = text;
     let mut base: usize = 0;
-    loop {
-        let line = layout_at(text, at);
-        let turn = turn_at(main.len(), base, line);
-        match turn {
-            Turn::Bad => return,
-            Turn::Ended => return,
-            Turn::On(start) => {
-                store_line(main, base, line, text, at);
+    while let Some((line, size)) = layout_at(rest) {
+        match turn_at(main.len(), base, line) {
+            None => return,
+            Some(Turn::Ended) => return,
+            Some(Turn::On(start)) => {
+                store_line(main, base, line, rest);
                 base = start;
+                rest = rest.split_at(size).1;
             }
         }
-        at += size_at(text, at);
     }
 }
 
