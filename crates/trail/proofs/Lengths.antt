@@ -3,7 +3,7 @@
 use Prim.Native.Nat.{ℕ, zero, suc, ◌+◌, ◌*◌, ◌/◌, ◌^◌, ◌<◌, ◌≤◌}
 use mathlib.Core.Path.{◌≡◌, refl, ap}
 use mathlib.Core.Bool.{Bool, true, false}
-use mathlib.Core.List.{[], ◌∷◌, ◌++◌}
+use mathlib.Core.List.{[], ◌∷◌}
 use native.Mathlib.Omega.{arith}
 use lib.Dec.{ltb}
 use lib.ListN.{length, length-append}
@@ -15,7 +15,6 @@ use Rattle.trail.specs.declared.OldValues.{OldValues}
 use Rattle.trail.specs.declared.Kind.{Kind}
 use Rattle.trail.specs.Numbers.{groups, bytes_if, GoodIf}
 use Rattle.trail.specs.Records.{Word, marked, body, body_in, record_bytes, kind_number, Good, GoodIn, differs, word_changed, old_values, record_in}
-use Rattle.trail.specs.OneChange.{closed, one_value}
 use Rattle.trail.proofs.NumbersReadBack.{cap, groups_one, groups_more}
 use Rattle.trail.proofs.Marks.{bit, marks, Sound, old_values_good}
 
@@ -113,37 +112,16 @@ pub record_length : {places : ℕ} {o : OldValues} → places ≤ 2 ^ 21 → Goo
 unfolding record_in
 record_length {places} {o} h g = simp length-append (omega (arith, sizes true h g))
 
--- ---- the record of one value: the marks, at most three bytes each for P and a word's place, five for the value, and L
+-- ---- the numbers of a step's record
 
-if_place : (t : Bool) (n : ℕ) → n < 2 ^ 21 → length (bytes_if t n) ≤ 3
-if_place true n h = groups_few 2 n (omega arith)
-if_place false n h = omega arith
+pub p_size : (p : ℕ) → p < 2 ^ 20 → length (groups p) ≤ 3
+p_size p h = groups_few 2 p (omega arith)
 
-pub record ValueSizes (marks p place v : ℕ) : Type 0 where
-  pub of_p : length (groups p) ≤ 3
-  pub of_place : length (bytes_if (marked 8 marks) place) ≤ 3
-  pub of_value : length (groups v) ≤ 5
+pub place_size : (n : ℕ) → n < 2 ^ 21 → length (groups n) ≤ 3
+place_size n h = groups_few 2 n (omega arith)
 
-pub p_size : {p : ℕ} → p < 2 ^ 20 → length (groups p) ≤ 3
-p_size {p} h = groups_few 2 p (omega arith)
-
-pub p_fits : (marks : ℕ) {p : ℕ} → p < 2 ^ 20 → length (closed (1 ∷ (marks ∷ groups p))) ≤ 28
-p_fits marks {p} h = omega (arith, p_size h, length-append (groups p) (length (1 ∷ (marks ∷ groups p)) ∷ []))
-
-pub value_sizes : (marks : ℕ) {p place v : ℕ} → p < 2 ^ 20 → place < 2 ^ 21 → v < 2 ^ 32 → ValueSizes marks p place v
-value_sizes marks {p} {place} {v} hp hq hv =
-    record {
-      of_p = p_size hp;
-      of_place = if_place (marked 8 marks) place hq;
-      of_value = groups_few 4 v (omega arith);
-    }
-
-pub value_fits : {marks p place v : ℕ} → ValueSizes marks p place v → length (one_value marks p place v) ≤ 28
-unfolding one_value
-value_fits {marks} {p} {place} {v} s =
-    let q = bytes_if (marked 8 marks) place in
-    let r = groups p ++ (q ++ groups v) in
-    omega (arith, s, length-append r (length (1 ∷ (marks ∷ r)) ∷ []), length-append (groups p) (q ++ groups v), length-append q (groups v))
+pub word_size : (v : ℕ) → v < 2 ^ 32 → length (groups v) ≤ 5
+word_size v h = groups_few 4 v (omega arith)
 
 -- ---- the record of an operation
 

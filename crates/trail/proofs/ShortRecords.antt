@@ -3,7 +3,7 @@
 use Prim.Native.Nat.{ℕ, ◌+◌, ◌*◌, ◌/◌, ◌%◌, ◌^◌, ◌<◌, ◌≤◌}
 use mathlib.Core.Path.{◌≡◌}
 use mathlib.Core.Bool.{Bool, true, false}
-use mathlib.Core.List.{List, [], ◌∷◌, ◌++◌, append-nil}
+use mathlib.Core.List.{List, [], ◌∷◌, ◌++◌, append-nil, append_assoc}
 use native.Mathlib.Omega.{arith}
 use lib.Dec.{eqb}
 use Rattle.std.specs.Prelude.{Some, None, Result}
@@ -12,7 +12,7 @@ use Rattle.machine.specs.declared.Place.{Place}
 use Rattle.trail.specs.declared.TrailFull.{TrailFull}
 use Rattle.trail.specs.Numbers.{groups}
 use Rattle.trail.specs.Records.{added, record_bytes, marks_by, place_number, record_in}
-use Rattle.trail.specs.OneChange.{closed, one_value, registers_kept, register_changed, Register, is_a, is_x, is_y}
+use Rattle.trail.specs.OneChange.{closed, registers_kept, register_changed, Register, is_a, is_x, is_y}
 use Rattle.trail.proofs.NumbersReadBack.{groups_one, groups_more}
 use Rattle.trail.proofs.Marks.{bits}
 
@@ -92,17 +92,15 @@ pub register_closed : {w f : ℕ} → Register w → (p : ℕ) (b s : Bool) (old
 register_closed r p b s old e = rw (register_marks r b s e, changed_bytes r p b s old)
 
 pub as_register : {w f : ℕ} → Register w → (p : ℕ) (b s : Bool) (old : ℕ) → f ≡ 16 * BV b + 32 * BV s
-    → one_value (w + f) p 0 old ≡ record_bytes (register_changed w p b s old)
-unfolding one_value
-as_register {w} r p b s old e =
-    rw (register_marks r b s e, changed_bytes r p b s old, (bits (eqb w 1) (eqb w 2) (eqb w 4) false b s).word)
+    → closed ((1 ∷ ((w + f) ∷ groups p)) ++ groups old) ≡ record_bytes (register_changed w p b s old)
+as_register r p b s old e = register_closed r p b s old e
 
 -- ---- one word
 
 pub as_word : {f q : ℕ} (p : ℕ) (b s : Bool) (place : Place) (old : ℕ) → f ≡ 16 * BV b + 32 * BV s → q ≡ place_number place
-    → one_value (8 + f) p q old ≡ record_bytes (registers_kept p b s (Some (record { place = place; value = old })))
-unfolding one_value record_in
+    → closed (((1 ∷ ((8 + f) ∷ groups p)) ++ groups q) ++ groups old) ≡ record_bytes (registers_kept p b s (Some (record { place = place; value = old })))
+unfolding record_in
 as_word {f} p b s place old e g =
     let m = bits false false false true b s in
     let n : 8 + f ≡ marks_by false false false true b s = omega arith in
-    rw (n, g, m.a, m.x, m.y, m.word, groups_one 1 (omega arith), groups_one (marks_by false false false true b s) (omega (arith, m.few)))
+    rw (n, g, append_assoc (groups p) (groups (place_number place)) (groups old), m.a, m.x, m.y, m.word, groups_one 1 (omega arith), groups_one (marks_by false false false true b s) (omega (arith, m.few)))

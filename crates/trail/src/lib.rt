@@ -3,7 +3,8 @@
 
 use machine::Place;
 
-pub mod numbers;
+mod bytes;
+mod numbers;
 pub mod places;
 pub mod records;
 

@@ -1,22 +1,16 @@
-// A record of old values, made whole and then added to the trail (document 01, "The trail").
+// The old values of an operation, and its record (document 01, "The trail").
 ghost use Rattle.std.specs.Prelude.{◌≡◌, cond, ◌+◌, ◌*◌, ◌^◌, ◌<◌, ◌≤◌, ◌∷◌, ◌++◌, length, take, Some, None};
 ghost use Rattle.report.specs.AnnexA.{BV};
 ghost use Rattle.machine.specs.Held.{where_of};
-ghost use Rattle.trail.specs.Numbers.{groups, Put};
-ghost use Rattle.trail.specs.OneChange.{closed, nine, one_value, registers_kept, register_changed, Register};
-ghost use Rattle.trail.specs.Records.{Addressed, Good, added, body, kind_number, old_values, record_bytes, word_place, word_value};
+ghost use Rattle.trail.specs.Numbers.{groups};
+ghost use Rattle.trail.specs.OneChange.{closed, nine, registers_kept, register_changed, Register};
+ghost use Rattle.trail.specs.Records.{Addressed, Good, added, body, old_values, record_bytes, word_place, word_value};
 
-use crate::numbers::{group, put_if, put_number};
+use crate::bytes::{Record, copy};
+use crate::numbers::group;
 use crate::places::place_number;
 use crate::{Kind, OldValues, OldWord, TrailFull};
 use machine::{Machine, Place};
-
-// A record, made whole before room is judged: the first `len` bytes of `bytes`.
-#[derive(Drop)]
-pub struct Record {
-    pub bytes: [u8; 28],
-    pub len: usize,
-}
 
 // The marks that tell the old flags.
 fn flags(b: bool, stop: bool) -> u32
@@ -46,13 +40,6 @@ fn word_value(word: Option<OldWord>) -> u32
     word.map_or(0, |w| w.value)
 }
 
-// The number of a kind.
-fn kind_number(kind: Kind) -> u32
-    ensures { result ≡ kind_number kind }
-{
-    kind as u32
-}
-
 // What an operation's record holds, by its kind, the machine before it, the machine after it and the word that it changed.
 pub fn old_values(kind: Kind, old: Machine, new: Machine, word: Option<OldWord>) -> OldValues
     requires { Addressed word }
@@ -74,50 +61,14 @@ pub fn old_values(kind: Kind, old: Machine, new: Machine, word: Option<OldWord>)
     }
 }
 
-// Puts the bytes of a record, L last, and answers their count.
-fn fill(bytes: &mut [u8; 28], o: OldValues) -> usize
-    requires { (Good (2 ^ 21) o) × (length (body o) ≤ 27) × (length bytes.old ≡ 28) }
-    ensures { Put 0 (record_bytes o) bytes.old bytes.new result }
-{
-    let m = o.marks;
-    let at_marks = put_number(bytes, 0, kind_number(o.kind));
-    let at_p = put_number(bytes, at_marks, m);
-    let at_a = put_number(bytes, at_p, o.p);
-    let at_x = put_if(m / 1 % 2 == 1, bytes, at_a, o.a);
-    let at_y = put_if(m / 2 % 2 == 1, bytes, at_x, o.x);
-    let at_place = put_if(m / 4 % 2 == 1, bytes, at_y, o.y);
-    let at_value = put_if(m / 8 % 2 == 1, bytes, at_place, o.place);
-    let n = put_if(m / 8 % 2 == 1, bytes, at_value, o.value);
-    bytes[n] = n as u8;
-    n + 1
-}
-
-// Copies a record right after the bytes in use. It is the only function that writes a byte of the trail.
-#[tactic(auto, unfolding(crate::specs::Records::added))]
-fn copy(trail: &mut [u8], used: usize, record: &[u8]) -> Result<usize, TrailFull>
-    requires { used ≤ length trail.old }
-    ensures { (result, trail.new) ≡ added trail.old used record.now }
-{
-    if trail.len() - used < record.len() {
-        return Err(TrailFull);
-    }
-    let next = used + record.len();
-    trail[used..next].copy_from_slice(record);
-    Ok(next)
-}
-
 // Adds the record of old values whose bytes before L are at most 27: only a word beside all three registers, each with its longest number, has
 // one more, and no operation changes those.
+#[tactic(auto, unfolding(crate::specs::Records::record_in))]
 pub fn add(trail: &mut [u8], used: usize, o: OldValues) -> Result<usize, TrailFull>
     requires { (used ≤ length trail.old) × Good (2 ^ 21) o × (length (body o) ≤ 27) }
     ensures { (result, trail.new) ≡ added trail.old used (record_bytes o) }
 {
-    let mut r = Record {
-        bytes: [0; 28],
-        len: 0,
-    };
-    r.len = fill(&mut r.bytes, o);
-    copy(trail, used, &r.bytes[..r.len])
+    Record::of(o).add_to(trail, used)
 }
 
 // The records of steps, which change at most one register or one word. What they add is what `add` would; most are short, and those are made
@@ -152,36 +103,11 @@ fn add_short(
     bytes[7] = b6;
     bytes[8] = b7;
     bytes[9] = b8;
-    let r = Record { bytes, len };
-    copy(trail, used, &r.bytes[..r.len])
-}
-
-// Puts the bytes of a record with no value, L last, and answers their count.
-fn fill_marks_and_p(bytes: &mut [u8; 28], marks: u32, p: u32) -> usize
-    requires { (marks < 64) × (p < 2 ^ 20) × (length bytes.old ≡ 28) }
-    ensures { Put 0 (closed (1 ∷ (marks ∷ groups p))) bytes.old bytes.new result }
-{
-    bytes[0] = 1;
-    bytes[1] = marks as u8;
-    let n = put_number(bytes, 2, p);
-    bytes[n] = n as u8;
-    n + 1
-}
-
-// Adds a record with no value: the marks and P. A call of `add` in its place made every step five instructions longer.
-fn add_marks_and_p(trail: &mut [u8], used: usize, marks: u32, p: u32) -> Result<usize, TrailFull>
-    requires { (used ≤ length trail.old) × (marks < 64) × (p < 2 ^ 20) }
-    ensures { (result, trail.new) ≡ added trail.old used (closed (1 ∷ (marks ∷ groups p))) }
-{
-    let mut r = Record {
-        bytes: [0; 28],
-        len: 0,
-    };
-    r.len = fill_marks_and_p(&mut r.bytes, marks, p);
-    copy(trail, used, &r.bytes[..r.len])
+    copy(trail, used, &bytes[..len])
 }
 
 // Adds the record of an operation that changed no register and no word.
+#[tactic(auto, using(crate::proofs::Lengths::p_size))]
 pub fn add_flags(
     trail: &mut [u8],
     used: usize,
@@ -212,41 +138,7 @@ pub fn add_flags(
             0,
         );
     }
-    add_marks_and_p(trail, used, marks, p)
-}
-
-// Puts the bytes of a record with one value, L last, and answers their count.
-fn fill_value(bytes: &mut [u8; 28], marks: u32, p: u32, place: u32, v: u32) -> usize
-    requires { (marks < 64) × (p < 2 ^ 20) × (place < 2 ^ 21) × (length bytes.old ≡ 28) }
-    ensures { Put 0 (one_value marks p place v) bytes.old bytes.new result }
-{
-    bytes[0] = 1;
-    bytes[1] = marks as u8;
-    let at_place = put_number(bytes, 2, p);
-    let at_value = put_if(marks / 8 % 2 == 1, bytes, at_place, place);
-    let n = put_number(bytes, at_value, v);
-    bytes[n] = n as u8;
-    n + 1
-}
-
-// Adds a record with one value: the marks, P, the word's place if one is marked, and the value.
-fn add_value(
-    trail: &mut [u8],
-    used: usize,
-    marks: u32,
-    p: u32,
-    place: u32,
-    v: u32,
-) -> Result<usize, TrailFull>
-    requires { (used ≤ length trail.old) × (marks < 64) × (p < 2 ^ 20) × (place < 2 ^ 21) }
-    ensures { (result, trail.new) ≡ added trail.old used (one_value marks p place v) }
-{
-    let mut r = Record {
-        bytes: [0; 28],
-        len: 0,
-    };
-    r.len = fill_value(&mut r.bytes, marks, p, place, v);
-    copy(trail, used, &r.bytes[..r.len])
+    Record::of_step(marks, p).add_to(trail, used)
 }
 
 // Adds a record of the marks, a P of one byte and a value: n bytes hold what is below the n-th power of 128. The low groups are written out for
@@ -426,6 +318,7 @@ fn add_with_p_of_two_bytes(
 }
 
 // Adds the record of an operation that changed one register, whose mark weighs w, and no word.
+#[tactic(auto, using(crate::proofs::Lengths::p_size, crate::proofs::Lengths::word_size))]
 pub fn add_register(
     trail: &mut [u8],
     used: usize,
@@ -445,10 +338,13 @@ pub fn add_register(
     if p < 16384 {
         return add_with_p_of_two_bytes(trail, used, marks as u8, p, old);
     }
-    add_value(trail, used, marks, p, 0, old)
+    let mut record = Record::of_step(marks, p);
+    record.push_number(old);
+    record.add_to(trail, used)
 }
 
 // Adds the record of an operation that changed one word and no register.
+#[tactic(auto, using(crate::proofs::Lengths::p_size, crate::proofs::Lengths::place_size, crate::proofs::Lengths::word_size))]
 pub fn add_word(
     trail: &mut [u8],
     used: usize,
@@ -456,10 +352,13 @@ pub fn add_word(
     b: bool,
     stop: bool,
     place: Place,
-    old: u32,
+    value: u32,
 ) -> Result<usize, TrailFull>
     requires { (used ≤ length trail.old) × (p < 2 ^ 20) × ((where_of place).1 < 2 ^ 20) }
-    ensures { (result, trail.new) ≡ added trail.old used (record_bytes (registers_kept p b stop (Some (record { place = place; value = old })))) }
+    ensures { (result, trail.new) ≡ added trail.old used (record_bytes (registers_kept p b stop (Some (record { place = place; value = value })))) }
 {
-    add_value(trail, used, 8 + flags(b, stop), p, place_number(place), old)
+    let mut record = Record::of_step(8 + flags(b, stop), p);
+    record.push_number(place_number(place));
+    record.push_number(value);
+    record.add_to(trail, used)
 }

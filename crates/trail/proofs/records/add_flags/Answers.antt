@@ -28,4 +28,4 @@ returns c =
     adds_kept a.trail.now a.used a.p a.b a.stop
     (omega (arith, c.flags-marks.ensures.0))
     refl
-    c.add_marks_and_p.ensures
+    (rw c.of_step.ensures at c.add_to.ensures)

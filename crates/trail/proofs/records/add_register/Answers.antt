@@ -3,6 +3,7 @@
 use mathlib.Core.Path.{ap, ◌∙◌}
 use native.Mathlib.Omega.{arith}
 use Rattle.trail.specs.Records.{added}
+use Rattle.trail.proofs.Pushing.{number_few, step_few}
 use Rattle.trail.proofs.ShortRecords.{as_register, register_few, register_closed}
 use Rattle.trail.proofs.records.add_register.Goals as goal
 
@@ -27,12 +28,11 @@ returns-then-p-lt16384 c =
     c.add_with_p_of_two_bytes.ensures
     ∙ ap (added _ _) (register_closed c.requires.2 a.p a.b a.stop a.old c.flags.ensures.0)
 
-pub add_value-requires : goal.add_value-requires
-add_value-requires c =
-    omega (arith, c.requires, register_few c.requires.2, c.flags.ensures)
+pub add_to-requires : goal.add_to-requires
+add_to-requires c = omega (arith, number_few _ c.push_number.ensures c.ranges.old.fits, step_few c.of_step-record.ensures c.requires.1)
 
 pub returns : goal.returns
 returns c =
     let a = c.args in
-    c.add_value.ensures
+    (rw (c.push_number.ensures, c.of_step-record.ensures) at c.add_to.ensures)
     ∙ ap (added _ _) (as_register c.requires.2 a.p a.b a.stop a.old c.flags.ensures.0)
