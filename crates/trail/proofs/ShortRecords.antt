@@ -39,14 +39,6 @@ pub groups_five : {n g₀ g₁ g₂ g₃ : ℕ} → 268435456 ≤ n → n < 2 ^ 
     → groups n ≡ g₀ ∷ g₁ ∷ g₂ ∷ g₃ ∷ n / 128 / 128 / 128 / 128 ∷ []
 groups_five h l e₀ e₁ e₂ e₃ = groups_then (omega arith) e₀ (groups_four (omega arith) (omega arith) e₁ e₂ e₃)
 
--- ---- one value and no place
-
--- What was added, by the groups of P and of the value.
-pub adds_groups : (trail : List ℕ) (used m p v : ℕ) {q s : List ℕ} {r : Result ℕ TrailFull × List ℕ} → groups p ≡ q → groups v ≡ s
-    → r ≡ added trail used (closed (1 ∷ (m ∷ (q ++ s))))
-    → r ≡ added trail used (closed (1 ∷ (m ∷ (groups p ++ groups v))))
-adds_groups trail used m p v e f h = rw (e, f) h
-
 -- ---- no register and no word
 
 kept_bytes : (p : ℕ) (b s : Bool) → record_bytes (registers_kept p b s None) ≡ closed (1 ∷ (marks_by false false false false b s ∷ groups p))
@@ -86,14 +78,10 @@ changed_bytes is_y p b s old =
     let m = bits false false true false b s in
     rw (m.a, m.x, m.y, m.word, groups_one 1 (omega arith), groups_one (marks_by false false true false b s) (omega (arith, m.few)), append-nil (groups old))
 
--- The record of one register by the groups of P and of its old value; and as a record with one value.
-pub register_closed : {w f : ℕ} → Register w → (p : ℕ) (b s : Bool) (old : ℕ) → f ≡ 16 * BV b + 32 * BV s
-    → closed (1 ∷ ((w + f) ∷ (groups p ++ groups old))) ≡ record_bytes (register_changed w p b s old)
-register_closed r p b s old e = rw (register_marks r b s e, changed_bytes r p b s old)
-
-pub as_register : {w f : ℕ} → Register w → (p : ℕ) (b s : Bool) (old : ℕ) → f ≡ 16 * BV b + 32 * BV s
-    → closed ((1 ∷ ((w + f) ∷ groups p)) ++ groups old) ≡ record_bytes (register_changed w p b s old)
-as_register r p b s old e = register_closed r p b s old e
+-- The record of one register by the groups of P and of its old value.
+pub as_register : {w f : ℕ} {q : List ℕ} → Register w → (p : ℕ) (b s : Bool) (old : ℕ) → groups p ≡ q → f ≡ 16 * BV b + 32 * BV s
+    → closed (1 ∷ ((w + f) ∷ (q ++ groups old))) ≡ record_bytes (register_changed w p b s old)
+as_register r p b s old g e = rw (← g, register_marks r b s e, changed_bytes r p b s old)
 
 -- ---- one word
 

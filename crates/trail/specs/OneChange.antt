@@ -1,7 +1,7 @@
 -- The old values of a step, which changes at most one register or one word. Its kind is 1.
 -- That they are its `old_values` is in the crate step, proofs/Completing.antt.
 -- Assumes nothing.
-use Rattle.std.specs.Prelude.{ℕ, Bool, false, cond, List, [], ◌∷◌, ◌++◌, eqb, length, replicate, None}
+use Rattle.std.specs.Prelude.{ℕ, Bool, false, cond, List, [], ◌∷◌, ◌++◌, eqb, length, None}
 use Rattle.trail.specs.declared.Kind.TheVariants.{Step}
 use Rattle.trail.specs.declared.OldValues.{OldValues}
 use Rattle.trail.specs.Records.{Word, marks_by, word_changed, word_place, word_value}
@@ -37,7 +37,3 @@ register_changed w p b stop old = one_change (eqb w 1) (eqb w 2) (eqb w 4) old p
 -- A record, by the bytes before L.
 abbrev pub closed : List ℕ → List ℕ
 closed s = s ++ (length s ∷ [])
-
--- The kind 1 and nine bytes at the head of a record's array.
-abbrev pub nine : ℕ → ℕ → ℕ → ℕ → ℕ → ℕ → ℕ → ℕ → ℕ → List ℕ
-nine b0 b1 b2 b3 b4 b5 b6 b7 b8 = 1 ∷ b0 ∷ b1 ∷ b2 ∷ b3 ∷ b4 ∷ b5 ∷ b6 ∷ b7 ∷ b8 ∷ replicate 18 0

@@ -8,18 +8,26 @@ use crate::numbers::group;
 use crate::{Kind, OldValues, TrailFull};
 use std::marker::Model;
 
-// Copies bytes right after the bytes in use. It is the only function that writes a byte of the trail.
+// Adds a record, whose bytes before L stand in two parts, right after the bytes in use. It is the only function that writes a byte of the trail.
 #[tactic(auto, unfolding(crate::specs::Records::added))]
-pub(crate) fn copy(trail: &mut [u8], used: usize, record: &[u8]) -> Result<usize, TrailFull>
-    requires { used ≤ length trail.old }
-    ensures { (result, trail.new) ≡ added trail.old used record.now }
+pub(crate) fn add_parts(
+    trail: &mut [u8],
+    used: usize,
+    head: &[u8],
+    tail: &[u8],
+) -> Result<usize, TrailFull>
+    requires { (used ≤ length trail.old) × (length head.now + length tail.now < 256) }
+    ensures { (result, trail.new) ≡ added trail.old used (closed (head.now ++ tail.now)) }
 {
-    if trail.len() - used < record.len() {
+    let n = head.len() + tail.len();
+    if trail.len() - used < n + 1 {
         return Err(TrailFull);
     }
-    let next = used + record.len();
-    trail[used..next].copy_from_slice(record);
-    Ok(next)
+    let at_tail = used + head.len();
+    trail[used..at_tail].copy_from_slice(head);
+    trail[at_tail..used + n].copy_from_slice(tail);
+    trail[used + n] = n as u8;
+    Ok(used + n + 1)
 }
 
 // The number of a kind.
@@ -115,12 +123,11 @@ impl Record {
         record
     }
 
-    // Puts L, the count of the bytes so far, and adds the record.
-    pub(crate) fn add_to(&mut self, trail: &mut [u8], used: usize) -> Result<usize, TrailFull>
-        requires { (used ≤ length trail.old) × (length self.old ≤ 27) }
-        ensures { (result, trail.new) ≡ added trail.old used (closed self.old) }
+    // Adds the record, with L after these bytes.
+    pub(crate) fn add_to(&self, trail: &mut [u8], used: usize) -> Result<usize, TrailFull>
+        requires { used ≤ length trail.old }
+        ensures { (result, trail.new) ≡ added trail.old used (closed self.now) }
     {
-        self.push(self.len as u8);
-        copy(trail, used, &self.bytes[..self.len])
+        add_parts(trail, used, &self.bytes[..self.len], &[])
     }
 }

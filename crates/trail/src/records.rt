@@ -3,10 +3,10 @@ ghost use Rattle.std.specs.Prelude.{◌≡◌, cond, ◌+◌, ◌*◌, ◌^◌, 
 ghost use Rattle.report.specs.AnnexA.{BV};
 ghost use Rattle.machine.specs.Held.{where_of};
 ghost use Rattle.trail.specs.Numbers.{groups};
-ghost use Rattle.trail.specs.OneChange.{closed, nine, registers_kept, register_changed, Register};
+ghost use Rattle.trail.specs.OneChange.{closed, registers_kept, register_changed, Register};
 ghost use Rattle.trail.specs.Records.{Addressed, Good, added, body, old_values, record_bytes, word_place, word_value};
 
-use crate::bytes::{Record, copy};
+use crate::bytes::{Record, add_parts};
 use crate::numbers::group;
 use crate::places::place_number;
 use crate::{Kind, OldValues, OldWord, TrailFull};
@@ -74,38 +74,6 @@ pub fn add(trail: &mut [u8], used: usize, o: OldValues) -> Result<usize, TrailFu
 // The records of steps, which change at most one register or one word. What they add is what `add` would; most are short, and those are made
 // without a loop.
 
-// Adds a step's record of at most ten bytes: the first `len` of the kind 1 and these nine, L last.
-fn add_short(
-    trail: &mut [u8],
-    used: usize,
-    len: usize,
-    b0: u8,
-    b1: u8,
-    b2: u8,
-    b3: u8,
-    b4: u8,
-    b5: u8,
-    b6: u8,
-    b7: u8,
-    b8: u8,
-) -> Result<usize, TrailFull>
-    requires { (used ≤ length trail.old) × (len ≤ 10) }
-    ensures { (result, trail.new) ≡ added trail.old used (take len (nine b0 b1 b2 b3 b4 b5 b6 b7 b8)) }
-{
-    let mut bytes = [0u8; 28];
-    bytes[0] = 1;
-    bytes[1] = b0;
-    bytes[2] = b1;
-    bytes[3] = b2;
-    bytes[4] = b3;
-    bytes[5] = b4;
-    bytes[6] = b5;
-    bytes[7] = b6;
-    bytes[8] = b7;
-    bytes[9] = b8;
-    copy(trail, used, &bytes[..len])
-}
-
 // Adds the record of an operation that changed no register and no word.
 #[tactic(auto, using(crate::proofs::Lengths::p_size))]
 pub fn add_flags(
@@ -120,205 +88,72 @@ pub fn add_flags(
 {
     let marks = flags(b, stop);
     if p < 128 {
-        return add_short(trail, used, 4, marks as u8, p as u8, 3, 0, 0, 0, 0, 0, 0);
+        return add_parts(trail, used, &[1, marks as u8, p as u8], &[]);
     }
     if p < 16384 {
-        return add_short(
+        return add_parts(
             trail,
             used,
-            5,
-            marks as u8,
-            group(p),
-            (p / 128) as u8,
-            4,
-            0,
-            0,
-            0,
-            0,
-            0,
+            &[1, marks as u8, group(p), (p / 128) as u8],
+            &[],
         );
     }
     Record::of_step(marks, p).add_to(trail, used)
 }
 
-// Adds a record of the marks, a P of one byte and a value: n bytes hold what is below the n-th power of 128. The low groups are written out for
-// each length: held in a local, they made a step up to three instructions longer.
-fn add_with_p_of_one_byte(
+// Adds a record of these first bytes and a value: n bytes hold what is below the n-th power of 128. The low groups are written out for each
+// length: held in a local, they made a step up to three instructions longer. The count of the first bytes is a constant, and so is each record's
+// length.
+fn add_value<const HEAD: usize>(
     trail: &mut [u8],
     used: usize,
-    marks: u8,
-    p: u8,
+    head: &[u8; HEAD],
     v: u32,
 ) -> Result<usize, TrailFull>
-    requires { (used ≤ length trail.old) × (p < 128) }
-    ensures { (result, trail.new) ≡ added trail.old used (closed (1 ∷ (marks ∷ (groups p ++ groups v)))) }
+    requires { (used ≤ length trail.old) × (HEAD ≤ 4) }
+    ensures { (result, trail.new) ≡ added trail.old used (closed (head.now ++ groups v)) }
 {
     if v < 128 {
-        return add_short(trail, used, 5, marks, p, v as u8, 4, 0, 0, 0, 0, 0);
+        return add_parts(trail, used, head, &[v as u8]);
     }
     if v < 16384 {
-        return add_short(
-            trail,
-            used,
-            6,
-            marks,
-            p,
-            group(v),
-            (v / 128) as u8,
-            5,
-            0,
-            0,
-            0,
-            0,
-        );
+        return add_parts(trail, used, head, &[group(v), (v / 128) as u8]);
     }
     let second = group(v / 128);
     if v < 2097152 {
-        return add_short(
+        return add_parts(
             trail,
             used,
-            7,
-            marks,
-            p,
-            group(v),
-            second,
-            (v / 128 / 128) as u8,
-            6,
-            0,
-            0,
-            0,
+            head,
+            &[group(v), second, (v / 128 / 128) as u8],
         );
     }
     let third = group(v / 128 / 128);
     if v < 268435456 {
-        return add_short(
+        return add_parts(
             trail,
             used,
-            8,
-            marks,
-            p,
-            group(v),
-            second,
-            third,
-            (v / 128 / 128 / 128) as u8,
-            7,
-            0,
-            0,
+            head,
+            &[group(v), second, third, (v / 128 / 128 / 128) as u8],
         );
     }
     let fourth = group(v / 128 / 128 / 128);
-    add_short(
+    add_parts(
         trail,
         used,
-        9,
-        marks,
-        p,
-        group(v),
-        second,
-        third,
-        fourth,
-        (v / 128 / 128 / 128 / 128) as u8,
-        8,
-        0,
-    )
-}
-
-// The same with a P of two bytes.
-fn add_with_p_of_two_bytes(
-    trail: &mut [u8],
-    used: usize,
-    marks: u8,
-    p: u32,
-    v: u32,
-) -> Result<usize, TrailFull>
-    requires { (used ≤ length trail.old) × (128 ≤ p) × (p < 16384) }
-    ensures { (result, trail.new) ≡ added trail.old used (closed (1 ∷ (marks ∷ (groups p ++ groups v)))) }
-{
-    if v < 128 {
-        return add_short(
-            trail,
-            used,
-            6,
-            marks,
-            group(p),
-            (p / 128) as u8,
-            v as u8,
-            5,
-            0,
-            0,
-            0,
-            0,
-        );
-    }
-    if v < 16384 {
-        return add_short(
-            trail,
-            used,
-            7,
-            marks,
-            group(p),
-            (p / 128) as u8,
-            group(v),
-            (v / 128) as u8,
-            6,
-            0,
-            0,
-            0,
-        );
-    }
-    let second = group(v / 128);
-    if v < 2097152 {
-        return add_short(
-            trail,
-            used,
-            8,
-            marks,
-            group(p),
-            (p / 128) as u8,
-            group(v),
-            second,
-            (v / 128 / 128) as u8,
-            7,
-            0,
-            0,
-        );
-    }
-    let third = group(v / 128 / 128);
-    if v < 268435456 {
-        return add_short(
-            trail,
-            used,
-            9,
-            marks,
-            group(p),
-            (p / 128) as u8,
+        head,
+        &[
             group(v),
             second,
             third,
-            (v / 128 / 128 / 128) as u8,
-            8,
-            0,
-        );
-    }
-    let fourth = group(v / 128 / 128 / 128);
-    add_short(
-        trail,
-        used,
-        10,
-        marks,
-        group(p),
-        (p / 128) as u8,
-        group(v),
-        second,
-        third,
-        fourth,
-        (v / 128 / 128 / 128 / 128) as u8,
-        9,
+            fourth,
+            (v / 128 / 128 / 128 / 128) as u8,
+        ],
     )
 }
 
 // Adds the record of an operation that changed one register, whose mark weighs w, and no word.
-#[tactic(auto, using(crate::proofs::Lengths::p_size, crate::proofs::Lengths::word_size))]
+#[tactic(auto, using(crate::proofs::ShortRecords::register_few, crate::proofs::Lengths::p_size, crate::proofs::Lengths::word_size))]
 pub fn add_register(
     trail: &mut [u8],
     used: usize,
@@ -333,10 +168,15 @@ pub fn add_register(
 {
     let marks = w + flags(b, stop);
     if p < 128 {
-        return add_with_p_of_one_byte(trail, used, marks as u8, p as u8, old);
+        return add_value(trail, used, &[1, marks as u8, p as u8], old);
     }
     if p < 16384 {
-        return add_with_p_of_two_bytes(trail, used, marks as u8, p, old);
+        return add_value(
+            trail,
+            used,
+            &[1, marks as u8, group(p), (p / 128) as u8],
+            old,
+        );
     }
     let mut record = Record::of_step(marks, p);
     record.push_number(old);
