@@ -1,7 +1,8 @@
 -- What C sees is what the call's own contract says, with its answer as a number.
 -- Assumes nothing.
+use Rattle.std.specs.Prelude.{Result, Ok, Err}
 use Prim.Native.Nat.{ℕ, ◌+◌, ◌<◌, ◌≤◌, ◌/◌, ◌^◌}
-use mathlib.Core.Path.{◌≡◌, refl, subst}
+use mathlib.Core.Path.{◌≡◌, refl}
 use mathlib.Core.Bool.{Bool, true, false, cond}
 use mathlib.Core.List.{List}
 use native.Mathlib.Omega.{arith}
@@ -11,42 +12,34 @@ use borrow.Author.Tests.{ltb-true, ltb-false}
 use Rattle.listing.specs.Listing.{answer, Lists}
 use Rattle.listing.proofs.Lengths.{listing_at_most}
 use Rattle.listing.proofs.Answers.{answered}
-use Rattle.listing.specs.declared.store.Listed.TheVariants.{Bytes, StoreTooLong}
-use Rattle.listing.specs.declared.store.Listed.{Listed}
+use Rattle.listing.specs.declared.store.ListRefusal.TheVariants.{StoreTooLong}
+use Rattle.listing.specs.declared.store.ListRefusal.{ListRefusal}
 use Rattle.intel_hex.specs.Exported.{blocks, exported_length, export_answer, Exports}
-use Rattle.intel_hex.specs.declared.exporting.Exported.{Exported}
-use Rattle.intel_hex.specs.declared.exporting.Exported.TheVariants.{Written, MainTooLong, OutTooShort}
-use Rattle.intel_hex.specs.Imported.{import_answer, main_after, used_after, Imports}
-use Rattle.intel_hex.specs.declared.importing.Imported.{Imported}
-use Rattle.intel_hex.specs.declared.importing.Import.{Import}
+use Rattle.intel_hex.specs.declared.exporting.ExportRefusal.{ExportRefusal}
+use Rattle.intel_hex.specs.declared.exporting.ExportRefusal.TheVariants.{MainTooLong, OutTooShort}
+use Rattle.intel_hex.specs.Imported.{used_after, Imports}
+use Rattle.intel_hex.specs.declared.importing.ImportRefusal.{ImportRefusal}
 use Rattle.surface.specs.Texts.{list_number, listed, line_number, import_number, imported, export_number, exported, Countable}
 
-pub list_seen : {main out after : List ℕ} {answer : Listed} {n : ℕ} → Lists main out answer after → n ≡ list_number answer
+pub list_seen : {main out after : List ℕ} {answer : Result ℕ ListRefusal} {n : ℕ} → Lists main out answer after → n ≡ list_number answer
     → ◌≡◌ {A = ℕ × List ℕ} (n, after) (listed main out)
 list_seen l e = rw (e, l.answer_is, l.output_is)
 
 -- The bytes of a listing fit the low half.
-pub list_within : (main : List ℕ) (room n : ℕ) → answer main room ≡ Bytes n → n < 2 ^ 32
+pub list_within : (main : List ℕ) (room n : ℕ) → answer main room ≡ Ok n → n < 2 ^ 32
 unfolding answer
 list_within main room n e = go (ltb (2 ^ 20) (length main)) refl
   where
     go : (t : Bool) → ltb (2 ^ 20) (length main) ≡ t → n < 2 ^ 32
-    go true h = let f : StoreTooLong ≡ Bytes n = rw h at e in let z : ◌≡◌ {A = ℕ} 0 1 = cc in absurd (omega arith)
+    go true h = let f : Err StoreTooLong ≡ Ok n = rw h at e in cc
     go false h = omega (arith, answered main room n e, listing_at_most main, ltb-false (2 ^ 20) (length main) h)
 
-seen_by : (main text : List ℕ) (used : ℕ) {after : List ℕ} {left n : ℕ} {answer : Imported}
-    → answer ≡ import_answer (length main) text
-    → left ≡ used_after (import_answer (length main) text) used
-    → after ≡ main_after (import_answer (length main) text) text main
-    → n ≡ import_number answer
+pub import_seen : (main text : List ℕ) (used : ℕ) {after : List ℕ} {answer : Result ℕ ImportRefusal} {n left : ℕ} → Imports main text answer after
+    → (n ≡ import_number answer) × (left ≡ used_after answer used)
     → ◌≡◌ {A = ℕ × List ℕ × ℕ} (n, after, left) (imported main used text)
-seen_by main text used a u m e = rw (e, a, u, m)
+import_seen main text used i e = rw (e.0, e.1, i.answer_is, i.main_is)
 
-pub import_seen : {main text after : List ℕ} {used n : ℕ} {i : Import} → Imports main used text i after → n ≡ import_number i.answer
-    → ◌≡◌ {A = ℕ × List ℕ × ℕ} (n, after, i.used) (imported main used text)
-import_seen {main} {text} {after} {used} x e = seen_by main text used x.answer_is x.used_is x.main_is e
-
-pub export_seen : {main out after : List ℕ} {answer : Exported} {n : ℕ} → Exports main out answer after → n ≡ export_number answer
+pub export_seen : {main out after : List ℕ} {answer : Result ℕ ExportRefusal} {n : ℕ} → Exports main out answer after → n ≡ export_number answer
     → ◌≡◌ {A = ℕ × List ℕ} (n, after) (exported main out)
 export_seen x e = rw (e, x.answer_is, x.out_is)
 
@@ -74,13 +67,10 @@ answer_countable : (n room : ℕ) → Countable (export_answer n room)
 unfolding export_answer
 answer_countable n room = go (ltb 1048576 n) refl (ltb room (exported_length n))
   where
-    go : (t : Bool) → ltb 1048576 n ≡ t → (s : Bool) → Countable (cond t MainTooLong (cond s OutTooShort (Written (exported_length n))))
+    go : (t : Bool) → ltb 1048576 n ≡ t → (s : Bool) → Countable (cond t (Err MainTooLong) (cond s (Err OutTooShort) (Ok (exported_length n))))
     go true e s = tt
     go false e true = tt
     go false e false = length_within n (ltb-false 1048576 n e)
 
-pub export_countable : {main out after : List ℕ} {answer : Exported} → Exports main out answer after → Countable answer
+pub export_countable : {main out after : List ℕ} {answer : Result ℕ ExportRefusal} → Exports main out answer after → Countable answer
 export_countable {main} {out} x = rw x.answer_is (answer_countable (length main) (length out))
-
-pub written_within : {answer : Exported} {n : ℕ} → answer ≡ Written n → Countable answer → n < 2 ^ 32
-written_within e h = subst Countable e h

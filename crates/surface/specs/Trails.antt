@@ -1,15 +1,17 @@
 -- What a C caller sees of the calls on trails (include/viper.h): the number answered, and what was lent as the call leaves it.
 -- Assumes nothing.
-use Rattle.std.specs.Prelude.{ℕ, Bool, not, List, [], ◌∷◌, eqb}
+use Rattle.std.specs.Prelude.{ℕ, Bool, not, List, [], ◌∷◌, eqb, Result, Ok, Err, Option, Some, None}
 use Rattle.machine.specs.Held.{place_by}
 use Rattle.machine.specs.declared.Place.{Place}
 use Rattle.trail.specs.declared.OldValues.{OldValues}
+use Rattle.trail.specs.Records.{kind_number}
 use Rattle.moving.specs.Moving.{move}
-use Rattle.moving.specs.declared.Moved.{Moved}
-use Rattle.moving.specs.declared.Moved.TheVariants.{Bytes, Broken, Short}
+use Rattle.moving.specs.declared.MoveRefusal.{MoveRefusal}
+use Rattle.moving.specs.declared.MoveRefusal.TheVariants as moves
 use Rattle.seeking.specs.Seeking.{sought}
-use Rattle.seeking.specs.declared.Sought.{Sought}
-use Rattle.seeking.specs.declared.Sought.TheVariants as sought
+use Rattle.seeking.specs.declared.Hit.{Hit}
+use Rattle.seeking.specs.declared.SeekRefusal.{SeekRefusal}
+use Rattle.seeking.specs.declared.SeekRefusal.TheVariants as seeks
 
 -- Store 0 is main, any other the ports.
 abbrev pub place_numbered : ℕ → ℕ → Place
@@ -17,16 +19,15 @@ place_numbered store address = place_by (not (eqb store 0)) address
 
 -- ---- trails moved (document 02, W12)
 
-abbrev pub moved_number : Moved → ℕ
-moved_number (Bytes n) = 0
-moved_number Broken = 8
-moved_number Short = 9
+abbrev pub moved_number : Result ℕ MoveRefusal → ℕ
+moved_number (Ok n) = 0
+moved_number (Err moves.Broken) = 8
+moved_number (Err moves.Short) = 9
 
 -- The count that C lent room for: written by an accepted move.
-abbrev pub moved_count : Moved → ℕ → ℕ
-moved_count (Bytes n) count = n
-moved_count Broken count = count
-moved_count Short count = count
+abbrev pub moved_count : Result ℕ MoveRefusal → ℕ → ℕ
+moved_count (Ok n) count = n
+moved_count (Err refusal) count = count
 
 -- To the new form or to the old one.
 abbrev pub moved : Bool → List ℕ → List ℕ → ℕ → ℕ × List ℕ × ℕ
@@ -36,28 +37,25 @@ moved new trail out count =
 
 -- ---- a word sought (document 02, W7)
 
-abbrev pub found_number : Sought → ℕ
-found_number (sought.Found back o) = 0
-found_number sought.Never = 0
-found_number sought.CountTooLarge = 3
-found_number sought.Broken = 8
+abbrev pub found_number : Result (Option Hit) SeekRefusal → ℕ
+found_number (Ok hit) = 0
+found_number (Err seeks.CountTooLarge) = 3
+found_number (Err seeks.Broken) = 8
 
 -- How many operations back; 0 where none is found.
-abbrev pub found_back : Sought → ℕ
-found_back (sought.Found back o) = back
-found_back sought.Never = 0
-found_back sought.CountTooLarge = 0
-found_back sought.Broken = 0
+abbrev pub found_back : Result (Option Hit) SeekRefusal → ℕ
+found_back (Ok (Some hit)) = hit.back
+found_back (Ok None) = 0
+found_back (Err refusal) = 0
 
 abbrev pub numbers_of : OldValues → List ℕ
-numbers_of o = o.kind ∷ o.marks ∷ o.p ∷ o.a ∷ o.x ∷ o.y ∷ o.place ∷ o.value ∷ []
+numbers_of o = kind_number o.kind ∷ o.marks ∷ o.p ∷ o.a ∷ o.x ∷ o.y ∷ o.place ∷ o.value ∷ []
 
 -- Kind, marks, P, A, X, Y, place and value; what is not marked is 0, and so are all where none is found.
-abbrev pub found_record : Sought → List ℕ
-found_record (sought.Found back o) = numbers_of o
-found_record sought.Never = 0 ∷ 0 ∷ 0 ∷ 0 ∷ 0 ∷ 0 ∷ 0 ∷ 0 ∷ []
-found_record sought.CountTooLarge = 0 ∷ 0 ∷ 0 ∷ 0 ∷ 0 ∷ 0 ∷ 0 ∷ 0 ∷ []
-found_record sought.Broken = 0 ∷ 0 ∷ 0 ∷ 0 ∷ 0 ∷ 0 ∷ 0 ∷ 0 ∷ []
+abbrev pub found_record : Result (Option Hit) SeekRefusal → List ℕ
+found_record (Ok (Some hit)) = numbers_of hit.values
+found_record (Ok None) = 0 ∷ 0 ∷ 0 ∷ 0 ∷ 0 ∷ 0 ∷ 0 ∷ 0 ∷ []
+found_record (Err refusal) = 0 ∷ 0 ∷ 0 ∷ 0 ∷ 0 ∷ 0 ∷ 0 ∷ 0 ∷ []
 
 abbrev pub found : ℕ → ℕ → List ℕ → ℕ → Place → ℕ × ℕ × List ℕ
 found main ports trail used q =

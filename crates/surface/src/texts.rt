@@ -1,18 +1,18 @@
 // Texts, for C: the numbers answered for a listing (document 02, W1) and for Intel HEX (W4).
 ghost use Rattle.std.specs.Prelude.{◌<◌, ◌^◌, ◌≡◌};
+ghost use Rattle.intel_hex.specs.Imported.{used_after};
 ghost use Rattle.surface.specs.Texts.{list_number, import_number, export_number, line_number, Countable};
 
-use intel_hex::{Exported, Imported};
-use listing::Listed;
+use intel_hex::{ExportRefusal, ImportRefusal};
+use listing::ListRefusal;
 
 // The bytes written in the low half; or the refusal in the high half.
-pub fn list_number(answer: Listed) -> u64
+pub fn list_number(answer: Result<usize, ListRefusal>) -> u64
     ensures { result ≡ list_number answer }
 {
     match answer {
-        Listed::Bytes(n) => n as u64,
-        Listed::StoreTooLong => 0x2_0000_0000,
-        Listed::OutputTooShort => 0x9_0000_0000,
+        Ok(n) => n as u64,
+        Err(refusal) => refusal as u64 * 0x1_0000_0000,
     }
 }
 
@@ -20,31 +20,31 @@ pub fn list_number(answer: Listed) -> u64
 fn line_number(n: usize) -> u64
     ensures { result ≡ line_number n }
 {
-    if n < 0x1_0000_0000 {
-        return n as u64;
-    }
-    0xFFFF_FFFF
+    n.min(0xFFFF_FFFF) as u64
 }
 
-// The refusal, or 0, in the low half; the first bad line in the high half.
-pub fn import_number(answer: Imported) -> u64
-    ensures { result ≡ import_number answer }
+// The refusal, or 0, in the low half; the first bad line in the high half. An accepted import writes the count of trail bytes in use, and a refused
+// one does not.
+pub fn hand_imported(answer: Result<usize, ImportRefusal>, used: &mut usize) -> u64
+    ensures { (result ≡ import_number answer) × (used.new ≡ used_after answer used.old) }
 {
     match answer {
-        Imported::Accepted => 0,
-        Imported::MainTooLong => 2,
-        Imported::BadText(n) => 12 + line_number(n) * 0x1_0000_0000,
+        Ok(count) => {
+            *used = count;
+            0
+        }
+        Err(ImportRefusal::MainTooLong) => 2,
+        Err(ImportRefusal::BadText(n)) => 12 + line_number(n) * 0x1_0000_0000,
     }
 }
 
 // The refusal in the low half; or the bytes written in the high half.
-pub fn export_number(answer: Exported) -> u64
+pub fn export_number(answer: Result<usize, ExportRefusal>) -> u64
     requires { Countable answer }
     ensures { result ≡ export_number answer }
 {
     match answer {
-        Exported::Written(n) => n as u64 * 0x1_0000_0000,
-        Exported::MainTooLong => 2,
-        Exported::OutTooShort => 9,
+        Ok(n) => n as u64 * 0x1_0000_0000,
+        Err(refusal) => refusal as u64,
     }
 }

@@ -3,47 +3,51 @@ ghost use Rattle.std.specs.Prelude.{◌≡◌, List, ℕ};
 ghost use Rattle.surface.specs.Trails.{place_numbered, moved_number, moved_count, found_number, found_back, found_record};
 
 use machine::{MainAddress, Place, PortNumber};
-use moving::Moved;
-use seeking::Sought;
+use moving::MoveRefusal;
+use seeking::{Hit, SeekRefusal};
 
 // Store 0 is main, any other the ports.
 pub fn place_of(store: u32, address: u32) -> Place
     ensures { result ≡ place_numbered store address }
 {
     if store == 0 {
-        return Place::Main(MainAddress(address));
+        Place::Main(MainAddress(address))
+    } else {
+        Place::Port(PortNumber(address))
     }
-    Place::Port(PortNumber(address))
 }
 
 // An accepted move writes its count, and a refused one does not.
-pub fn hand_moved(answer: Moved, out_used: &mut usize) -> u32
+pub fn hand_moved(answer: Result<usize, MoveRefusal>, out_used: &mut usize) -> u32
     ensures { (result ≡ moved_number answer) × (out_used.new ≡ moved_count answer out_used.old) }
 {
     match answer {
-        Moved::Bytes(n) => {
+        Ok(n) => {
             *out_used = n;
             0
         }
-        Moved::Broken => 8,
-        Moved::Short => 9,
+        Err(refusal) => refusal as u32,
     }
 }
 
 // Where no record is found both are 0.
-pub fn hand_found(answer: Sought, back: &mut usize, record: &mut [u32; 8]) -> u32
+pub fn hand_found(
+    answer: Result<Option<Hit>, SeekRefusal>,
+    back: &mut usize,
+    record: &mut [u32; 8],
+) -> u32
     ensures { (result ≡ found_number answer) × (back.new ≡ found_back answer) × («record».new ≡ found_record answer) }
 {
     *back = 0;
     *record = [0; 8];
     match answer {
-        Sought::Found(n, o) => {
-            *back = n;
-            *record = [o.kind, o.marks, o.p, o.a, o.x, o.y, o.place, o.value];
+        Ok(Some(hit)) => {
+            let o = hit.values;
+            *back = hit.back;
+            *record = [o.kind as u32, o.marks, o.p, o.a, o.x, o.y, o.place, o.value];
             0
         }
-        Sought::Never => 0,
-        Sought::CountTooLarge => 3,
-        Sought::Broken => 8,
+        Ok(None) => 0,
+        Err(refusal) => refusal as u32,
     }
 }
