@@ -5,4 +5,4 @@ use Rattle.counter.proofs.Reading.{bad_line_within}
 use Rattle.who.proofs.load_and_tell.Goals as goal
 
 pub overflow_add-n : goal.overflow_add-n
-overflow_add-n g c = omega (arith, bad_line_within c.in-BadLine.is c.load-loaded.ensures)
+overflow_add-n g c = omega (arith, bad_line_within c.in-Err.is c.load.ensures)

@@ -3,4 +3,4 @@ use Rattle.text.proofs.Digits.{one_more_fits}
 use Rattle.text.proofs.texts.+decimal_digits.Goals as goal
 
 pub push-requires-2 : goal.push-requires-2
-push-requires-2 t c = (omega arith, rw c.decimal_digits-digits.ensures (one_more_fits c.args.n c.if-n-lt10.false (omega arith)))
+push-requires-2 t c = (omega arith, rw c.decimal_digits-digits.ensures (one_more_fits c.args.n (omega arith) (omega arith)))
