@@ -14,6 +14,8 @@ use Rattle.report.specs.AnnexA.{Mem}
 use Rattle.report.specs.Parts.{Where, fitted, with_word, word_at}
 use Rattle.machine.specs.Held.{ram, state, machine_of, where_of, place_of}
 use Rattle.machine.specs.declared.Machine.{Machine}
+use Rattle.machine.specs.declared.Ending.{Ending}
+use Rattle.machine.specs.declared.Ending.TheVariants as ending
 use Rattle.machine.specs.declared.Place.{Place}
 use Rattle.machine.specs.declared.Place.TheVariants as place
 use Rattle.trail.specs.declared.Kind.TheVariants as kind
@@ -40,7 +42,7 @@ use Rattle.viper.specs.Views.{view_fitted}
 use Rattle.step.specs.Finishing.{Fitted, left, Finish, finished}
 use Rattle.viper.specs.Noting.{noted, noted_by, stores_restored, Refits}
 use Rattle.step.specs.Lawful.{Lawful}
-use Rattle.viper.specs.Judging.{first_refusals, answer_by}
+use Rattle.viper.specs.Judging.{first_refusals}
 use Rattle.viper.specs.Told.{bench}
 use Rattle.step.proofs.Planning.{word_back}
 use Rattle.viper.proofs.Stepping.{answer_is, turn, out_of_budget, stops, finished_between, put_again}
@@ -89,6 +91,13 @@ refused e b r h = rw h
 
 pub accepted : (e : Operation) (b : Bench) → answer (operate e) b ≡ Ok tt → record { answered = Ok tt; bench = done e b } ≡ outcome e b
 accepted e b h = rw h
+
+-- The answer of a step, from how a run of one step ended.
+abbrev pub answer_by : Ending → Answer
+answer_by ending.Stopped = Ok tt
+answer_by ending.Budget = Ok tt
+answer_by ending.Unfitted = Err Unfitted
+answer_by ending.Full = Err TrailFull
 
 -- What a run of one step comes to, as a step.
 abbrev stepped_to : Ran → Outcome

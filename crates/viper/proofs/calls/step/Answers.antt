@@ -6,10 +6,10 @@ use Rattle.std.specs.Prelude.{Ok, ◌⊎◌}
 use Rattle.std.proofs.Common.{inl, inr}
 use Rattle.machine.specs.declared.Ending.{Ending}
 use Rattle.machine.specs.declared.Ending.TheVariants as ending
-use Rattle.viper.specs.Judging.{ran_told, answer_by}
+use Rattle.viper.specs.Judging.{ran_told}
 use Rattle.viper.specs.Operations as operations
 use Rattle.std.proofs.lemmas.Result.{err_from_is_err_and}
-use Rattle.viper.proofs.Exits.{passed, refused_first, refused_stopped, stepped_once, step_refused}
+use Rattle.viper.proofs.Exits.{answer_by, passed, refused_first, refused_stopped, stepped_once, step_refused}
 use Rattle.viper.proofs.calls.step.Goals as goal
 
 pub returns-in_err-judge : goal.returns-in_err-judge
