@@ -28,6 +28,10 @@ use Rattle.trail.specs.declared.Broken.{Broken}
 use Rattle.trail.specs.declared.OldValues.{OldValues}
 use Rattle.trail.specs.declared.TrailFull as no_room
 use Rattle.viper.specs.declared.Refusal.{Refusal}
+use Rattle.viper.specs.declared.After.{After}
+use Rattle.viper.specs.declared.Ran as code
+use Rattle.std.specs.Result.{IsErrAnd}
+use Rattle.std.proofs.lemmas.Result.{err_from_is_err_and}
 use Rattle.viper.specs.declared.Refusal.TheVariants.{PTooLarge, StoreTooLong, CountTooLarge, Stopped, Unfitted, TrailFull, NothingInUse, BrokenRecord}
 use Rattle.std.specs.Prelude.{Result, Ok, Err, None}
 use Rattle.viper.specs.Refusals.{Answer, when, or_else}
@@ -43,7 +47,7 @@ use Rattle.step.specs.Finishing.{Fitted, left, Finish, finished}
 use Rattle.viper.specs.Noting.{noted, noted_by, stores_restored, Refits}
 use Rattle.step.specs.Lawful.{Lawful}
 use Rattle.viper.specs.Judging.{first_refusals}
-use Rattle.viper.specs.Told.{bench}
+use Rattle.viper.specs.Told.{bench, told, run_told}
 use Rattle.step.proofs.Planning.{word_back}
 use Rattle.viper.proofs.Stepping.{answer_is, turn, out_of_budget, stops, finished_between, put_again}
 
@@ -86,6 +90,15 @@ module _ (p main ports trail used : ℕ) where
 
 -- ---- a refused call leaves the bench
 
+-- the code hands nothing back
+told_refused : (m : Machine) (main ports trail : List ℕ) (used : ℕ) (x : Result After Refusal) (r : Refusal) → IsErrAnd x (λ y. y ≡ r)
+    → told x m used main ports trail ≡ record { answered = Err r; bench = bench m main ports trail used }
+told_refused m main ports trail used x r h = let p = err_from_is_err_and x h in rw (p.1, p.2) refl
+
+run_told_refused : (m : Machine) (main ports trail : List ℕ) (used : ℕ) (x : Result code.Ran Refusal) (r : Refusal) → IsErrAnd x (λ y. y ≡ r)
+    → run_told x m used main ports trail ≡ record { answered = Err r; bench = bench m main ports trail used }
+run_told_refused m main ports trail used x r h = let p = err_from_is_err_and x h in rw (p.1, p.2) refl
+
 pub refused : (e : Operation) (b : Bench) (r : Refusal) → answer (operate e) b ≡ Err r → record { answered = Err r; bench = b } ≡ outcome e b
 refused e b r h = rw h
 
@@ -116,8 +129,10 @@ module _ (m : Machine) (main ports trail : List ℕ) (used : ℕ) where
   first = first_refusals m.p (length main) (length ports) (length trail) used
 
   -- the first three
-  pub refused_first : (e : Operation) (a : Answer) (r : Refusal) → lends_stores (operate e) ≡ true → a ≡ first → a ≡ Err r → record { answered = Err r; bench = b } ≡ outcome e b
-  refused_first e a r h k q = refused e b r (first_then (operate e) m main ports trail used h ∙ ap (λ (x : Answer). or_else x (later (operate e) b)) (sym k ∙ q))
+  pub refused_first : (e : Operation) (a : Answer) (r : Refusal) (x : Result After Refusal) → lends_stores (operate e) ≡ true → a ≡ first → a ≡ Err r → IsErrAnd x (λ y. y ≡ r) → told x m used main ports trail ≡ outcome e b
+  refused_first e a r x h k q z =
+      told_refused m main ports trail used x r z
+      ∙ refused e b r (first_then (operate e) m main ports trail used h ∙ ap (λ (x : Answer). or_else x (later (operate e) b)) (sym k ∙ q))
 
   -- 4
   pub refused_stopped : (a : Answer) → a ≡ first → a ≡ Ok tt → m.stop ≡ true → record { answered = Err Stopped; bench = b } ≡ outcome step b
@@ -168,8 +183,8 @@ module _ (m : Machine) (main ports trail : List ℕ) (used : ℕ) where
       go (Ok u) = refl
       go (Err r) = refl
 
-  pub run_refused : (n : ℕ) (a : Answer) (r : Refusal) → a ≡ first → a ≡ Err r → record { answered = Err r; bench = b } ≡ run_outcome n b
-  run_refused n a r k q = rw (run_answers n, sym k ∙ q)
+  pub run_refused : (n : ℕ) (a : Answer) (r : Refusal) (x : Result code.Ran Refusal) → a ≡ first → a ≡ Err r → IsErrAnd x (λ y. y ≡ r) → run_told x m used main ports trail ≡ run_outcome n b
+  run_refused n a r x k q z = run_told_refused m main ports trail used x r z ∙ (rw (run_answers n, sym k ∙ q) refl)
 
   pub run_ended : (n : ℕ) (a : Answer) (o : Ran) → a ≡ first → a ≡ Ok tt → o ≡ over_and_over n b → record { answered = Ok (o.steps, o.ended); bench = o.bench } ≡ run_outcome n b
   run_ended n a o k q e = rw (run_answers n, sym k ∙ q, e)

@@ -16,6 +16,7 @@ use trail::OldValues;
 use trail::places::place_of_number;
 
 // Takes the newest operation back in the stores, and hands out its old values for the registers. Of the machine only P is asked.
+#[tactic(auto, using(crate::proofs::Exits::passed, crate::proofs::Exits::back_first, crate::proofs::Exits::back_nothing, crate::proofs::Exits::back_broken, crate::proofs::Exits::back_refits, crate::proofs::Finding::restores, crate::proofs::Finding::short_restores, crate::proofs::Finding::short_broken))]
 pub fn restore_stores(
     m: Machine,
     main: &mut [u32],
@@ -47,6 +48,7 @@ pub fn restore_stores(
 }
 
 // The machine with the old values of a record: what is not marked stays.
+#[tactic(auto, unfolding(trail::specs::Records::restored))]
 pub(crate) fn machine_restored(o: OldValues, m: Machine) -> Machine
     ensures { (main ports : List ℕ) → result ≡ machine_of (restored o (state m (ram main ports))) }
 {

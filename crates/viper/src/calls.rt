@@ -105,6 +105,7 @@ fn advance(
 }
 
 // One instruction.
+#[tactic(auto, using(crate::proofs::Exits::passed, crate::proofs::Exits::refused_first, crate::proofs::Exits::refused_stopped, crate::proofs::Exits::stepped_once, crate::proofs::Exits::step_refused))]
 pub fn step(
     m: Machine,
     main: &mut [u32],
@@ -130,6 +131,7 @@ pub fn step(
 }
 
 // Steps until STOP is set, the budget is used up, or a step is refused, with the earlier steps kept.
+#[tactic(auto, using(crate::proofs::Exits::passed, crate::proofs::Exits::run_refused, crate::proofs::Exits::run_ended))]
 pub fn run(
     m: Machine,
     main: &mut [u32],
@@ -145,6 +147,7 @@ pub fn run(
 }
 
 // An operation on the machine alone: its record goes to the trail, whatever the stores hold. No store is lent, so none is too long.
+#[tactic(auto, using(crate::proofs::Exits::passed, crate::proofs::Exits::noted_refused, crate::proofs::Exits::noted_full, crate::proofs::Exits::noted_done))]
 fn note(
     kind: Kind,
     m: Machine,
@@ -164,6 +167,7 @@ fn note(
 }
 
 // Clears A, X, Y, P, B and STOP.
+#[tactic(auto, using(crate::proofs::Exits::reset_is))]
 pub fn reset(m: Machine, trail: &mut [u8], used: usize) -> Result<After, Refusal>
     ensures { (main ports : List ℕ) → told result m used main ports trail.new ≡ outcome reset_op (bench m main ports trail.old used) }
 {
@@ -171,6 +175,7 @@ pub fn reset(m: Machine, trail: &mut [u8], used: usize) -> Result<After, Refusal
 }
 
 // Sets STOP, also when it is set already.
+#[tactic(auto, using(crate::proofs::Exits::force_is))]
 pub fn force(m: Machine, trail: &mut [u8], used: usize) -> Result<After, Refusal>
     ensures { (main ports : List ℕ) → told result m used main ports trail.new ≡ outcome force_op (bench m main ports trail.old used) }
 {
@@ -178,6 +183,7 @@ pub fn force(m: Machine, trail: &mut [u8], used: usize) -> Result<After, Refusal
 }
 
 // Puts a value at a main address or port number, on a halted machine too.
+#[tactic(auto, using(crate::proofs::Exits::passed, crate::proofs::Exits::refused_first, crate::proofs::Exits::set_unfitted, crate::proofs::Exits::set_fitted, crate::proofs::Exits::set_full, crate::proofs::Exits::set_done))]
 pub fn set(
     m: Machine,
     main: &mut [u32],

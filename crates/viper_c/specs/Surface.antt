@@ -1,18 +1,15 @@
 -- What a C caller sees of a call (include/viper.h): what it lends, what the call leaves there, and the number it answers.
 -- Assumes nothing.
-use Rattle.std.specs.Prelude.{ℕ, ◌+◌, ◌*◌, ◌^◌, Bool, true, false, not, cond, List, [], ◌∷◌, eqb, get_or}
+use Rattle.std.specs.Prelude.{ℕ, ◌+◌, ◌*◌, ◌^◌, Bool, not, cond, List, [], ◌∷◌, eqb, get_or, Ok, Err}
+use Rattle.std.specs.Result.{is_ok}
 use Rattle.machine.specs.Held.{machine_of}
 use Rattle.machine.specs.declared.Machine.{Machine}
 use Rattle.machine.specs.declared.Ending.{Ending}
 use Rattle.machine.specs.declared.Ending.TheVariants as ending
-use Rattle.viper.specs.Refusals.{number}
+use Rattle.viper.specs.Refusals.{Answer, number}
 use Rattle.viper.specs.Operations.{Bench, Outcome}
-use Rattle.viper.specs.Runs.{RunOutcome}
+use Rattle.viper.specs.Runs.{RunAnswer, RunOutcome}
 use Rattle.viper.specs.Told.{bench}
-use Rattle.viper.specs.declared.Answer.{Answer}
-use Rattle.viper.specs.declared.Answer.TheVariants.{Done, Refused}
-use Rattle.viper.specs.declared.RunAnswer.{RunAnswer}
-use Rattle.viper.specs.declared.RunAnswer.TheVariants as run_answer
 
 -- ---- regs: A, X, Y, P, B, STOP, one word each
 
@@ -41,8 +38,8 @@ regs_of_machine m = m.a ∷ m.x ∷ m.y ∷ m.p ∷ one_or_zero m.b ∷ one_or_z
 
 -- 0 for an accepted call, else the refusal's number.
 abbrev pub answer_number : Answer → ℕ
-answer_number Done = 0
-answer_number (Refused r) = number r
+answer_number (Ok u) = 0
+answer_number (Err r) = number r
 
 abbrev pub ending_number : Ending → ℕ
 ending_number ending.Stopped = 0
@@ -52,8 +49,8 @@ ending_number ending.Full = 3
 
 -- The steps done in the low 32 bits and the ending in the high 32; or 16 + n there, for refusal n.
 abbrev pub run_number : RunAnswer → ℕ
-run_number (run_answer.Ended steps e) = steps + ending_number e * 2 ^ 32
-run_number (run_answer.Refused r) = (16 + number r) * 2 ^ 32
+run_number (Ok ended) = ended.0 + ending_number ended.1 * 2 ^ 32
+run_number (Err r) = (16 + number r) * 2 ^ 32
 
 -- ---- what is lent, and what is left
 
@@ -80,14 +77,6 @@ pub record Seen : Type 0 where
 abbrev pub seen : ℕ → Lent → Seen
 seen n l = record { answered = n; left = l }
 
-abbrev pub accepted : Answer → Bool
-accepted Done = true
-accepted (Refused r) = false
-
-abbrev pub run_accepted : RunAnswer → Bool
-run_accepted (run_answer.Ended steps e) = true
-run_accepted (run_answer.Refused r) = false
-
 -- What was lent, with the bench after the call: an accepted call writes all of regs and the count in use, a refused one neither.
 abbrev pub left_by : Bool → Bench → Lent → Lent
 left_by accept b l =
@@ -95,7 +84,7 @@ left_by accept b l =
 
 -- What C sees of a call, by what the call does to a bench.
 abbrev pub called : (Bench → Outcome) → Lent → Seen
-called call l = let o = call (bench_of l) in seen (answer_number o.answered) (left_by (accepted o.answered) o.bench l)
+called call l = let o = call (bench_of l) in seen (answer_number o.answered) (left_by (is_ok o.answered) o.bench l)
 
 abbrev pub run_called : (Bench → RunOutcome) → Lent → Seen
-run_called call l = let o = call (bench_of l) in seen (run_number o.answered) (left_by (run_accepted o.answered) o.bench l)
+run_called call l = let o = call (bench_of l) in seen (run_number o.answered) (left_by (is_ok o.answered) o.bench l)

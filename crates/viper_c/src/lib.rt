@@ -17,11 +17,10 @@ ghost use Rattle.viper.specs.Views.{view_fitted};
 ghost use Rattle.surface.specs.Trails.{place_numbered};
 ghost use Rattle.viper_c.specs.Surface.{lending, seen, called, run_called, one_or_zero};
 
-use answers::{hand_back, hand_run_back, number_of};
-use registers::machine_of;
+use answers::hand_back;
+use registers::{machine_of, write_back};
 use restoring::put_back;
 use surface::trails::place_of;
-use viper::Found;
 
 // One instruction.
 #[unsafe(no_mangle)]
@@ -34,13 +33,12 @@ pub extern "C" fn viper_step(
 ) -> u32
     ensures { seen result (lending regs.new main.new ports.new trail.new used.new) ≡ called (outcome step_op) (lending regs.old main.old ports.old trail.old used.old) }
 {
-    let m = machine_of(regs);
-    let count = *used;
-    let o = viper::calls::step(m, main, ports, trail, count);
-    hand_back(o, regs, used)
+    let answer = viper::calls::step(machine_of(regs), main, ports, trail, *used);
+    hand_back(answer, regs, used)
 }
 
-// Steps until STOP is set, the budget is used up, or a step is refused.
+// Steps until STOP is set, the budget is used up, or a step is refused. A run that was accepted writes regs and the count in use also if it did no
+// step. It answers the steps done and the ending, or 16 and the refusal's number, in the two halves.
 #[unsafe(no_mangle)]
 pub extern "C" fn viper_run(
     regs: &mut [u32; 6],
@@ -52,10 +50,13 @@ pub extern "C" fn viper_run(
 ) -> u64
     ensures { seen result (lending regs.new main.new ports.new trail.new used.new) ≡ run_called (run_outcome budget) (lending regs.old main.old ports.old trail.old used.old) }
 {
-    let m = machine_of(regs);
-    let count = *used;
-    let o = viper::calls::run(m, main, ports, trail, count, budget);
-    hand_run_back(o, regs, used)
+    match viper::calls::run(machine_of(regs), main, ports, trail, *used, budget) {
+        Ok(ran) => {
+            write_back(ran.machine, ran.used, regs, used);
+            ran.steps as u64 + ran.ending as u64 * 0x1_0000_0000
+        }
+        Err(refusal) => (16 + refusal as u64) * 0x1_0000_0000,
+    }
 }
 
 // Clears A, X, Y, P, B and STOP.
@@ -63,10 +64,8 @@ pub extern "C" fn viper_run(
 pub extern "C" fn viper_reset(regs: &mut [u32; 6], trail: &mut [u8], used: &mut usize) -> u32
     ensures { (main ports : List ℕ) → seen result (lending regs.new main ports trail.new used.new) ≡ called (outcome reset_op) (lending regs.old main ports trail.old used.old) }
 {
-    let m = machine_of(regs);
-    let count = *used;
-    let o = viper::calls::reset(m, trail, count);
-    hand_back(o, regs, used)
+    let answer = viper::calls::reset(machine_of(regs), trail, *used);
+    hand_back(answer, regs, used)
 }
 
 // Sets STOP, also when it is set already.
@@ -74,10 +73,8 @@ pub extern "C" fn viper_reset(regs: &mut [u32; 6], trail: &mut [u8], used: &mut 
 pub extern "C" fn viper_force(regs: &mut [u32; 6], trail: &mut [u8], used: &mut usize) -> u32
     ensures { (main ports : List ℕ) → seen result (lending regs.new main ports trail.new used.new) ≡ called (outcome force_op) (lending regs.old main ports trail.old used.old) }
 {
-    let m = machine_of(regs);
-    let count = *used;
-    let o = viper::calls::force(m, trail, count);
-    hand_back(o, regs, used)
+    let answer = viper::calls::force(machine_of(regs), trail, *used);
+    hand_back(answer, regs, used)
 }
 
 // Puts a value at a main address (store 0) or port number (any other store), on a halted machine too.
@@ -94,11 +91,9 @@ pub extern "C" fn viper_set(
 ) -> u32
     ensures { seen result (lending regs.new main.new ports.new trail.new used.new) ≡ called (outcome (set_word (place_numbered store address) value)) (lending regs.old main.old ports.old trail.old used.old) }
 {
-    let m = machine_of(regs);
-    let count = *used;
     let place = place_of(store, address);
-    let o = viper::calls::set(m, main, ports, trail, count, place, value);
-    hand_back(o, regs, used)
+    let answer = viper::calls::set(machine_of(regs), main, ports, trail, *used, place, value);
+    hand_back(answer, regs, used)
 }
 
 // Takes back the newest operation on the trail. No trail byte is written.
@@ -112,18 +107,13 @@ pub extern "C" fn viper_back(
 ) -> u32
     ensures { seen result (lending regs.new main.new ports.new trail.now used.new) ≡ called back_outcome (lending regs.old main.old ports.old trail.now used.old) }
 {
-    let m = machine_of(regs);
-    let count = *used;
-    let found = viper::back::restore_stores(m, main, ports, trail, count);
-    match found {
-        Found::Refused(refusal) => {
-            return number_of(refusal);
+    match viper::back::restore_stores(machine_of(regs), main, ports, trail, *used) {
+        Ok(back) => {
+            put_back(back.marked, back.values, regs);
+            *used = back.left;
+            0
         }
-        Found::Record(marked, o, left) => {
-            put_back(marked, o, regs);
-            *used = left;
-            return 0;
-        }
+        Err(refusal) => refusal as u32,
     }
 }
 
@@ -138,8 +128,5 @@ pub extern "C" fn viper_fitted(
 ) -> u8
     ensures { result ≡ one_or_zero (view_fitted (length main.now) (length ports.now) (place_numbered store address) n) }
 {
-    if viper::views::is_fitted(main, ports, place_of(store, address), n) {
-        return 1;
-    }
-    0
+    u8::from(viper::views::is_fitted(main, ports, place_of(store, address), n))
 }

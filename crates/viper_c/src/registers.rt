@@ -1,6 +1,7 @@
-// The machine in C's hands (include/viper.h): regs holds A, X, Y, P, B and STOP, one word each.
+// The machine in C's hands (include/viper.h): regs holds A, X, Y, P, B and STOP, one word each. Functions and no From: the machine is a type of
+// another crate, and the array one of std.
 ghost use Rattle.std.specs.Prelude.{◌≡◌};
-ghost use Rattle.viper_c.specs.Surface.{machine_of_regs, regs_of_machine, one_or_zero};
+ghost use Rattle.viper_c.specs.Surface.{machine_of_regs, regs_of_machine};
 
 use machine::Machine;
 
@@ -22,14 +23,6 @@ pub(crate) fn machine_of(regs: &[u32; 6]) -> Machine
 pub(crate) fn write_back(m: Machine, count: usize, regs: &mut [u32; 6], used: &mut usize)
     ensures { (regs.new ≡ regs_of_machine m) × (used.new ≡ count) }
 {
-    let b = one_or_zero(m.b);
-    let stop = one_or_zero(m.stop);
-    *regs = [m.a, m.x, m.y, m.p, b, stop];
+    *regs = [m.a, m.x, m.y, m.p, u32::from(m.b), u32::from(m.stop)];
     *used = count;
-}
-
-pub(crate) fn one_or_zero(set: bool) -> u32
-    ensures { result ≡ one_or_zero set }
-{
-    if set { 1 } else { 0 }
 }

@@ -3,16 +3,15 @@ ghost use Rattle.std.specs.Prelude.{◌≡◌, ◌<◌, length};
 ghost use Rattle.viper.specs.Finding.{Marks};
 ghost use Rattle.viper_c.specs.Restoring.{put_if as put_if_of, flags_put, all_put};
 
-use crate::registers::one_or_zero;
+use reading::Marked;
 use trail::OldValues;
-use viper::Marked;
 
 // Puts back P, B and STOP. A, X and Y are written as they are, so that all six words are known; the compiler leaves that out.
 fn put_flags(o: OldValues, regs: &mut [u32; 6])
     ensures { regs.new ≡ flags_put o regs.old }
 {
-    let b = one_or_zero(o.marks / 16 % 2 == 1);
-    let stop = one_or_zero(o.marks / 32 % 2 == 1);
+    let b = u32::from(o.marks / 16 % 2 == 1);
+    let stop = u32::from(o.marks / 32 % 2 == 1);
     *regs = [regs[0], regs[1], regs[2], o.p, b, stop];
 }
 

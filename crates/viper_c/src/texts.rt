@@ -3,15 +3,14 @@
 ghost use Rattle.std.specs.Prelude.{◌≡◌, List, ℕ};
 ghost use Rattle.surface.specs.Texts.{listed, imported, exported};
 
-use surface::texts::{export_number, import_number, list_number};
+use surface::texts::{export_number, hand_imported, list_number};
 
 // Lists main from address 0, a line a word.
 #[unsafe(no_mangle)]
 pub extern "C" fn viper_list(main: &[u32], out: &mut [u8]) -> u64
     ensures { ◌≡◌ {A = ℕ × List ℕ} (result, out.new) (listed main.now out.old) }
 {
-    let answer = listing::list(main, out);
-    list_number(answer)
+    list_number(listing::list(main, out))
 }
 
 // Reads an Intel HEX text into main. After an accepted one no byte of the trail is in use.
@@ -19,11 +18,7 @@ pub extern "C" fn viper_list(main: &[u32], out: &mut [u8]) -> u64
 pub extern "C" fn viper_hex_import(main: &mut [u32], used: &mut usize, text: &[u8]) -> u64
     ensures { ◌≡◌ {A = ℕ × List ℕ × ℕ} (result, main.new, used.new) (imported main.old used.old text.now) }
 {
-    let count = *used;
-    let import = intel_hex::import_hex(main, count, text);
-    *used = import.used;
-    let answer = import.answer;
-    import_number(answer)
+    hand_imported(intel_hex::import_hex(main, text), used)
 }
 
 // Writes main as an Intel HEX text.
@@ -31,6 +26,5 @@ pub extern "C" fn viper_hex_import(main: &mut [u32], used: &mut usize, text: &[u
 pub extern "C" fn viper_hex_export(main: &[u32], out: &mut [u8]) -> u64
     ensures { ◌≡◌ {A = ℕ × List ℕ} (result, out.new) (exported main.now out.old) }
 {
-    let answer = intel_hex::export_hex(main, out);
-    export_number(answer)
+    export_number(intel_hex::export_hex(main, out))
 }

@@ -10,8 +10,7 @@ use surface::trails::{hand_found, hand_moved, place_of};
 pub extern "C" fn viper_trail_to_new(trail: &[u8], out: &mut [u8], out_used: &mut usize) -> u32
     ensures { ◌≡◌ {A = ℕ × List ℕ × ℕ} (result, out.new, out_used.new) (moved true trail.now out.old out_used.old) }
 {
-    let answer = moving::to_new(trail, out);
-    hand_moved(answer, out_used)
+    hand_moved(moving::to_new(trail, out), out_used)
 }
 
 // A whole trail from the new form to the old one: the kinds are dropped.
@@ -19,8 +18,7 @@ pub extern "C" fn viper_trail_to_new(trail: &[u8], out: &mut [u8], out_used: &mu
 pub extern "C" fn viper_trail_to_old(trail: &[u8], out: &mut [u8], out_used: &mut usize) -> u32
     ensures { ◌≡◌ {A = ℕ × List ℕ × ℕ} (result, out.new, out_used.new) (moved false trail.now out.old out_used.old) }
 {
-    let answer = moving::to_old(trail, out);
-    hand_moved(answer, out_used)
+    hand_moved(moving::to_old(trail, out), out_used)
 }
 
 // The newest record that holds a word, and how many operations back it is. Both are always written.

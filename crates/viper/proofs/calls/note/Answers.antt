@@ -6,13 +6,8 @@ use Rattle.std.proofs.lemmas.Result.{err_from_is_err_and}
 use Rattle.machine.specs.Held.{ram}
 use Rattle.trail.proofs.Marks.{Sound, old_values_good}
 use Rattle.trail.proofs.Lengths.{kept_short}
-use Rattle.viper.proofs.Exits.{passed, noted_refused, noted_full, noted_done}
+use Rattle.viper.proofs.Exits.{passed, noted_full, noted_done}
 use Rattle.viper.proofs.calls.note.Goals as goal
-
-pub returns-in_err-judge : goal.returns-in_err-judge
-returns-in_err-judge c = λ main ports.
-    let p = err_from_is_err_and c.from_residual.result c.from_residual.ensures.1 in
-    rw (p.1, p.2) (noted_refused c.args.kind c.args.m c.args.after (ram main ports) c.args.trail.now c.args.used c.judge.result c.judge.ensures _ c.in_err-judge.was)
 
 pub add-requires : goal.add-requires
 add-requires c =

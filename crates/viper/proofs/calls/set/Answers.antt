@@ -13,25 +13,14 @@ use Rattle.viper.specs.Operations.{set_word}
 use Rattle.step.specs.Phases as phases
 use Rattle.step.proofs.Stores.{changing_addressed, changing_value, finish_full, finish_done}
 use Rattle.step.proofs.Completing.{written_over}
-use Rattle.viper.proofs.Exits.{passed, refused_first, set_unfitted, set_fitted, set_full, set_done}
+use Rattle.viper.proofs.Exits.{passed, refused_first, set_fitted, set_full, set_done}
 use borrow.Author.Rules.{rules}
 use Rattle.viper.proofs.calls.set.Goals as goal
 
 pub returns-in_err-judge : goal.returns-in_err-judge
 returns-in_err-judge c =
     let a = c.args in
-    let p = err_from_is_err_and c.from_residual.result c.from_residual.ensures.1 in
-    rw (p.1, p.2) (refused_first a.m a.main.now a.ports.now a.trail.now a.used (set_word a.place a.value) c.judge.result _ refl c.judge.ensures c.in_err-judge.was)
-
-pub returns-then-not-is_fitted : goal.returns-then-not-is_fitted
-returns-then-not-is_fitted c =
-    let a = c.args in
-    set_unfitted a.m a.main.now a.ports.now a.trail.now a.used a.place a.value c.judge.result c.judge.ensures c.in_ok-judge.was c.is_fitted.result c.is_fitted.ensures c.if-not-is_fitted.true
-
-pub word_at-old-requires : goal.word_at-old-requires
-word_at-old-requires c =
-    let a = c.args in
-    set_fitted a.m a.main.now a.ports.now a.trail.now a.used a.place a.value c.judge.result c.judge.ensures c.in_ok-judge.was c.is_fitted.result c.is_fitted.ensures c.if-not-is_fitted.false
+    refused_first a.m a.main.now a.ports.now a.trail.now a.used (set_word a.place a.value) c.judge.result _ c.from_residual.result refl c.judge.ensures c.in_err-judge.was c.from_residual.ensures.1
 
 pub old_values-o-requires : goal.old_values-o-requires
 old_values-o-requires c =
@@ -69,11 +58,6 @@ returns-in_err-used c =
     rw (p.1, p.2)
     (set_full a.m a.main.now a.ports.now a.trail.now a.used a.place a.value c.judge.result c.judge.ensures c.in_ok-judge.was c.is_fitted.result c.is_fitted.ensures c.if-not-is_fitted.false (Err trail_full) stores n.new.trail
     (finish_full kind.Set a.m (record { machine = a.m; written = phases.Word a.place a.value }) stores a.trail.now a.used w.result v.result n.result n.new.trail hw v.ensures n.ensures c.in_err-used.was) refl)
-
-pub put_word-requires : goal.put_word-requires
-put_word-requires c =
-    let a = c.args in
-    set_fitted a.m a.main.now a.ports.now a.trail.now a.used a.place a.value c.judge.result c.judge.ensures c.in_ok-judge.was c.is_fitted.result c.is_fitted.ensures c.if-not-is_fitted.false
 
 pub returns : goal.returns
 returns c =

@@ -8,19 +8,13 @@ use Rattle.machine.specs.declared.Ending.{Ending}
 use Rattle.machine.specs.declared.Ending.TheVariants as ending
 use Rattle.viper.specs.Judging.{ran_told}
 use Rattle.viper.specs.Operations as operations
-use Rattle.std.proofs.lemmas.Result.{err_from_is_err_and}
-use Rattle.viper.proofs.Exits.{answer_by, passed, refused_first, refused_stopped, stepped_once, step_refused}
+use Rattle.viper.proofs.Exits.{answer_by, passed, refused_first, stepped_once, step_refused}
 use Rattle.viper.proofs.calls.step.Goals as goal
 
 pub returns-in_err-judge : goal.returns-in_err-judge
 returns-in_err-judge c =
     let a = c.args in
-    let p = err_from_is_err_and c.from_residual.result c.from_residual.ensures.1 in rw (p.1, p.2) (refused_first a.m a.main.now a.ports.now a.trail.now a.used operations.step c.judge.result _ refl c.judge.ensures c.in_err-judge.was)
-
-pub returns-then-m : goal.returns-then-m
-returns-then-m c =
-    let a = c.args in
-    refused_stopped a.m a.main.now a.ports.now a.trail.now a.used c.judge.result c.judge.ensures c.in_ok-judge.was c.if-m.true
+    refused_first a.m a.main.now a.ports.now a.trail.now a.used operations.step c.judge.result _ c.from_residual.result refl c.judge.ensures c.in_err-judge.was c.from_residual.ensures.1
 
 answered_by : (e : Ending) → (e ≡ ending.Stopped) ⊎ (e ≡ ending.Budget) → answer_by e ≡ Ok tt
 answered_by e h = elim h [ inl k ↦ ap answer_by k | inr k ↦ ap answer_by k ]
