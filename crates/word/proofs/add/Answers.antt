@@ -1,13 +1,12 @@
 -- The i64 sum is exact, so leaving -2^31 to 2^31 - 1 is overflow as Annex B says it.
-use Rattle.report.proofs.AnnexB.{add_is}
 use Rattle.word.proofs.Casts.{sum_back}
-use Rattle.word.proofs.Carries.{carries}
+use Rattle.word.proofs.Carries.{sum_is_add}
 use Rattle.word.proofs.add.Goals as goal
 
 pub returns : goal.returns
 returns c =
-    let r = c.args.r in
-    let m = c.args.m in
+    let s = c.args in
+    let f = c.ranges in
     let wrapped = c.overflowing_add-value.ensures in
-    let exact = sum_back c.signed.result c.signed-2.result r m c.signed.ensures c.signed-2.ensures c.ranges.r.fits c.ranges.m.fits in
-    rw (add_is r m c.ranges.r.fits c.ranges.m.fits, c.overflows.ensures, exact, wrapped.value, carries _ _ _ wrapped.overflow)
+    sum_is_add s.r s.m f.r.fits f.m.fits c.overflows.ensures wrapped.value wrapped.overflow
+    (sum_back c.signed.result c.signed-2.result s.r s.m c.signed.ensures c.signed-2.ensures f.r.fits f.m.fits)
