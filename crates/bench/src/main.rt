@@ -46,7 +46,8 @@ fn run_and_take_back(
 }
 
 // Takes back until it is refused, and answers what is left then and how many records were taken back. A record has four bytes or more, so the turns
-// are fewer than the bytes that were in use.
+// are fewer than the bytes that were in use. (who takes back as many as it is told and tells no count; one function for both would want a crate of its
+// own above viper, and is no plainer than either loop.)
 fn take_back_all(
     after: After,
     main: &mut [u32],

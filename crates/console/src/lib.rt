@@ -13,6 +13,7 @@ pub fn read_full<R: Read>(from: &mut R, bytes: &mut [u8]) -> io::Result<usize>
     ensures read { IfOk result (λ n. Consumes (R.remaining from.old) (R.remaining from.new) (take n bytes.new)) }
     ensures end { IfOk result (λ n. n < length bytes.new → IsAtEnd (R.remaining from.new)) }
 {
+    // Each read tells how many bytes it gave, so no range has the turns' places.
     let mut done: usize = 0;
     while done < bytes.len() {
         let n = from.read(&mut bytes[done..])?;

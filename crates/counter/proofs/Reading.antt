@@ -8,34 +8,20 @@ use mathlib.Core.List.{List, [], ◌∷◌, ◌++◌}
 use native.Mathlib.Omega.{arith}
 use native.Mathlib.Numerals.{add-one, sub-one}
 use lib.Dec.{ltb}
-use lib.ListN.{length, get_or, take, drop, set, length-append, length-drop, drop_of_length-le}
+use lib.ListN.{length, get_or, take, drop, set, length-drop}
 use lib.Seq.{drop-cons, take-suc, append_snoc, set_at, take_all, length-take-le}
-use borrow.Author.Tests.{lt-ltb, le-ltb, eq-eqb, ne_eqb}
+use borrow.Author.Tests.{lt-ltb, le-ltb}
 use Rattle.text.specs.Digits.{digit_value}
-use Rattle.counter.specs.Routine.{line_after, first_line, Routine, then_lines, routine_of, answer, main_after, Loads}
+use Rattle.counter.specs.Routine.{line_after, first_line, Routine, then_lines, routine_of, answer, Loads}
 use Rattle.counter.specs.declared.routine.BadLine.{BadLine}
 
-module _ (text : List ℕ) (at k v : ℕ) where
-  pub line_ends : length text ≤ at → line_after k v (drop at text) ≡ None
-  line_ends h = rw (drop_of_length-le text h) (nothing k)
-    where
-      nothing : (j : ℕ) → line_after j v [] ≡ None
-      nothing zero = refl
-      nothing (suc j) = refl
+module _ (text : List ℕ) (at k v : ℕ) (more : at < length text) where
+  pub no_digit : 16 ≤ digit_value (get_or text at 0) → line_after (suc k) v (drop at text) ≡ None
+  no_digit h = rw (drop-cons text at 0 more, le-ltb (digit_value (get_or text at 0)) 16 h)
 
-  module _ (more : at < length text) where
-    pub no_digit : 16 ≤ digit_value (get_or text at 0) → line_after (suc k) v (drop at text) ≡ None
-    no_digit h = rw (drop-cons text at 0 more, le-ltb (digit_value (get_or text at 0)) 16 h)
-
-    pub one_digit : digit_value (get_or text at 0) < 16
-        → line_after (suc k) v (drop at text) ≡ line_after k (v * 16 + digit_value (get_or text at 0)) (drop (at + 1) text)
-    one_digit h = rw (drop-cons text at 0 more, lt-ltb (digit_value (get_or text at 0)) 16 h, add-one)
-
-    pub line_feed : get_or text at 0 ≡ 10 → line_after 0 v (drop at text) ≡ Some v
-    line_feed h = rw (drop-cons text at 0 more, eq-eqb (get_or text at 0) 10 h)
-
-    pub no_line_feed : (get_or text at 0 ≡ 10 → ⊥) → line_after 0 v (drop at text) ≡ None
-    no_line_feed h = rw (drop-cons text at 0 more, ne_eqb (get_or text at 0) 10 h)
+  pub one_digit : digit_value (get_or text at 0) < 16
+      → line_after (suc k) v (drop at text) ≡ line_after k (v * 16 + digit_value (get_or text at 0)) (drop (at + 1) text)
+  one_digit h = rw (drop-cons text at 0 more, lt-ltb (digit_value (get_or text at 0)) 16 h, add-one)
 
 -- Two constructors are never equal: `cc` makes 0 ≡ 1 of it, and anything follows.
 clash : {A : Type 0} → ◌≡◌ {A = ℕ} 0 1 → A
@@ -103,21 +89,17 @@ unfolding routine_of
 one_line room [] w e = clash (cc)
 one_line room (b ∷ text) w e = rw e
 
-abbrev pub bad_line : ℕ → Result ℕ BadLine
-bad_line n = Err (record { 0 = n })
+abbrev bad : ℕ → Result ℕ BadLine
+bad n = Err (record { 0 = n })
 
 -- The answer for lines that come after k others.
 abbrev pub after_lines : ℕ → Result ℕ BadLine → Result ℕ BadLine
 after_lines k (Ok n) = Ok (k + n)
-after_lines k (Err b) = bad_line (k + b.0)
-
-pub after_none : (l : Result ℕ BadLine) → l ≡ after_lines 0 l
-after_none (Ok n) = ap Ok (omega arith)
-after_none (Err b) = ap bad_line (omega arith)
+after_lines k (Err b) = bad (k + b.0)
 
 pub after_one : (k w : ℕ) (r : Routine) → after_lines k (answer (then_lines (Some w) r)) ≡ after_lines (k + 1) (answer r)
 after_one k w (Ok ws) = ap Ok (omega arith)
-after_one k w (Err n) = ap bad_line (omega arith)
+after_one k w (Err n) = ap bad (omega arith)
 
 -- The words of a routine; a bad text has none.
 abbrev pub words_in : Routine → List ℕ
@@ -127,16 +109,6 @@ words_in (Err n) = []
 pub good_text : (r : Routine) (n : ℕ) → answer r ≡ Ok n → (r ≡ Ok (words_in r)) × (length (words_in r) ≡ n)
 good_text (Ok ws) n e = (refl, cc)
 good_text (Err k) n e = clash (cc)
-
-pub good_main : (r : Routine) (n : ℕ) (main : List ℕ) → answer r ≡ Ok n → main_after r main ≡ words_in r ++ drop n main
-good_main (Ok ws) n main e =
-    let l : length ws ≡ n = cc in
-    rw l
-good_main (Err k) n main e = clash (cc)
-
-pub bad_main : (r : Routine) (b : BadLine) (main : List ℕ) → answer r ≡ Err b → main ≡ main_after r main
-bad_main (Ok ws) b main e = clash (cc)
-bad_main (Err k) b main e = refl
 
 -- One word more in main, after j of them.
 pub next_word : (ws main : List ℕ) (j : ℕ) → j < length ws → j < length main
@@ -174,22 +146,6 @@ words_fit room text (w ∷ ws) e =
     let f = first_word room text (w ∷ ws) e (omega arith) in
     omega (arith, f.2, words_fit (room - 1) (drop 9 text) ws f.1)
 
--- The words loaded are within main. The two laws are what a part `&main[..n]` asks.
-module _ {text main after : List ℕ} {r : Result ℕ BadLine} {n : ℕ} (e : r ≡ Ok n) (loads : Loads text main r after) where
-  pub loaded_within : n ≤ length after
-  loaded_within =
-      let routine = routine_of (length main) text in
-      let a : answer routine ≡ Ok n = sym loads.answer_is ∙ e in
-      omega (
-        arith,
-        (good_text routine n a).1,
-        ap length (loads.main_is ∙ good_main routine n main a),
-        length-append (words_in routine) (drop n main),
-      )
-
-  pub loaded_count : n ≡ length (take n after)
-  loaded_count = sym (length-take-le n after loaded_within)
-
 -- The first bad line is at most the one after those that main has room for.
 bad_within : (room : ℕ) (text : List ℕ) (n : ℕ) → routine_of room text ≡ Err n → n ≤ suc room
 unfolding routine_of
@@ -218,6 +174,6 @@ bad_line_within {text} {main} {after} {r} {b} e loads = go (routine_of (length m
         let f : Ok (length ws) ≡ Err b = sym (loads.answer_is ∙ ap answer q) ∙ e in
         clash (cc)
     go (Err m) q =
-        let f : bad_line m ≡ Err b = sym (loads.answer_is ∙ ap answer q) ∙ e in
+        let f : bad m ≡ Err b = sym (loads.answer_is ∙ ap answer q) ∙ e in
         let k : m ≡ b.0 = cc in
         omega (arith, bad_within (length main) text m q)

@@ -60,7 +60,7 @@ fn push_in_use(line: &mut Line, used: usize)
 }
 
 // The line of a run: the steps done, the ending, the machine and the bytes in use.
-#[tactic(auto, unfolding(crate::specs::Lines::run_line), using(text::proofs::Digits::twenty_digits, crate::proofs::Lengths::name_length, crate::proofs::Lengths::registers_length, crate::proofs::Lengths::in_use_length))]
+#[tactic(auto, unfolding(crate::specs::Lines::run_line), using(text::proofs::Digits::twenty_digits, crate::proofs::Lengths::name_length, crate::proofs::Lengths::registers_length))]
 pub fn run_line(steps: u32, ending: Ending, m: Machine, used: usize) -> Text<160>
     ensures { result ≡ run_line steps ending m used }
 {
@@ -75,7 +75,7 @@ pub fn run_line(steps: u32, ending: Ending, m: Machine, used: usize) -> Text<160
 }
 
 // The line after taking back: the records taken back, the machine and the bytes in use.
-#[tactic(auto, unfolding(crate::specs::Lines::back_line), using(text::proofs::Digits::twenty_digits, crate::proofs::Lengths::registers_length, crate::proofs::Lengths::in_use_length))]
+#[tactic(auto, unfolding(crate::specs::Lines::back_line), using(text::proofs::Digits::twenty_digits, crate::proofs::Lengths::registers_length))]
 pub fn back_line(count: usize, m: Machine, used: usize) -> Text<160>
     ensures { result ≡ back_line count m used }
 {
