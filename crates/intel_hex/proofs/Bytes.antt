@@ -9,7 +9,7 @@ use native.Mathlib.Nat.{add-zero, zero-add}
 use lib.Dec.{ltb, eqb}
 use lib.ListN.{length, get_or, drop, drop_of_length-le, get_or-eq_default}
 use lib.Seq.{get_or-drop, drop-drop}
-use borrow.Author.Tests.{lt-ltb, le-ltb, eq-eqb, ne_eqb, ltb-true, ltb-false}
+use borrow.Author.Tests.{lt-ltb, le-ltb, ltb-true, ltb-false}
 use Rattle.text.specs.Digits.{digit_value}
 use Rattle.intel_hex.specs.Digits.{byte_of, byte, some_byte}
 use Rattle.std.specs.Prelude.{sum, Option, Some, None}
@@ -153,32 +153,6 @@ module _ (bs : List ℕ) where
       go false q =
           let z : ◌≡◌ {A = ℕ} 256 0 = sym (not_summed q) ∙ e in
           absurd (omega arith)
-
-module _ (a b : ℕ) where
-  pub line_feed : a ≡ 10 → ending_of a b ≡ 1
-  unfolding ending_of
-  line_feed e = rw (eq-eqb a 10 e)
-
-  pub no_ending : (a ≡ 10 → ⊥) → (a ≡ 13 → ⊥) → ending_of a b ≡ 0
-  unfolding ending_of
-  no_ending g h = rw (ne_eqb a 10 g, ne_eqb a 13 h)
-
-  pub return_feed : (a ≡ 10 → ⊥) → a ≡ 13 → b ≡ 10 → ending_of a b ≡ 2
-  unfolding ending_of
-  return_feed g h e = rw (ne_eqb a 10 g, eq-eqb a 13 h, eq-eqb b 10 e)
-
-  pub return_only : (a ≡ 10 → ⊥) → a ≡ 13 → (b ≡ 10 → ⊥) → ending_of a b ≡ 0
-  unfolding ending_of
-  return_only g h e = rw (ne_eqb a 10 g, eq-eqb a 13 h, ne_eqb b 10 e)
-
-module _ (text : List ℕ) (at : ℕ) where
-  pub ending_there : ending (drop at text) ≡ ending_of (get_or text at 0) (get_or text (at + 1) 0)
-  unfolding ending
-  ending_there = rw (get_or-drop at text 0 0, get_or-drop at text 1 0, add-zero)
-
-  pub ending_past : length text ≤ at → ending (drop at text) ≡ 0
-  unfolding ending ending_of
-  ending_past h = rw (drop_of_length-le text h)
 
 pub ending_small : (rest : List ℕ) → ending rest ≤ 2
 unfolding ending ending_of

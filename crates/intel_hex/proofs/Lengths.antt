@@ -12,7 +12,6 @@ use lib.ListN.{length, get_or, take, drop, length-append, length-drop}
 use lib.Seq.{take-suc, take_all, length-take-le}
 use borrow.Author.Tests.{lt-ltb, eq-eqb, ne_eqb, leb-true, leb-false, ltb-true, ltb-false, eqb-true, eqb-false}
 use Rattle.std.specs.Prelude.{sum}
-use Rattle.std.specs.Int.{w16, to_be_bytes}
 use Rattle.std.proofs.lemmas.List.Sums.{sum_by-cons}
 use Rattle.text.specs.Digits.{hex}
 use Rattle.intel_hex.specs.Layout.{pairs, record_line, data_bytes}
@@ -30,20 +29,6 @@ pub pairs_more : (bs : List ℕ) (i : ℕ) → i < length bs → pairs (take (i 
 unfolding hex
 pairs_more bs i h = rw (add-one, take-suc bs i 0 h, pairs_append)
 
--- An address is two bytes, the high one first.
-pub two_bytes : (n : ℕ) → n < 65536 → to_be_bytes w16 n ≡ n / 256 ∷ n % 256 ∷ []
-two_bytes n h =
-    let e : n / 256 % 256 ≡ n / 256 = omega arith in
-    rw e
-
-pub hex_two : (n : ℕ) → length (hex 2 n) ≡ 2
-unfolding hex
-hex_two n = refl
-
-pub data_append : (a b : List ℕ) → data_bytes (a ++ b) ≡ data_bytes a ++ data_bytes b
-data_append [] b = refl
-data_append (x ∷ a) b = rw (data_append a b)
-
 pub pairs_length : (bytes : List ℕ) → length (pairs bytes) ≡ 2 * length bytes
 pairs_length [] = refl
 pairs_length (b ∷ bytes) = omega (arith, pairs_length bytes)
@@ -51,9 +36,6 @@ pairs_length (b ∷ bytes) = omega (arith, pairs_length bytes)
 pub data_length : (words : List ℕ) → length (data_bytes words) ≡ 4 * length words
 data_length [] = refl
 data_length (w ∷ words) = omega (arith, data_length words)
-
-pub words_length : (words : List ℕ) → length (pairs (data_bytes words)) ≡ 8 * length words
-words_length words = omega (arith, pairs_length (data_bytes words), data_length words)
 
 pub line_length : (type address : ℕ) (bytes : List ℕ) → length (record_line type address bytes) ≡ 12 + 2 * length bytes
 unfolding record_line

@@ -24,7 +24,6 @@ fn sum_of(bytes: &[u8]) -> usize
 }
 
 // Each byte goes to the line as two digits.
-#[tactic(auto, using(crate::proofs::Lengths::pairs_more, crate::proofs::Lengths::hex_two, crate::proofs::Lengths::pairs_length))]
 fn push_pairs(line: &mut Text<44>, bytes: &[u8])
     requires { length line.old + 2 * length bytes.now ≤ 44 }
     ensures { line.new ≡ line.old ++ pairs bytes.now }
@@ -64,6 +63,7 @@ fn data_bytes(words: &[u32]) -> Text<16>
 }
 
 // The type 04 record before row i, where a further 64 KiB starts.
+#[tactic(auto, unfolding(crate::specs::Exported::upper_before, crate::specs::Exported::upper_line))]
 fn upper_before(i: usize) -> Text<44>
     requires { i < 262144 }
     ensures { result ≡ upper_before i }
@@ -76,6 +76,7 @@ fn upper_before(i: usize) -> Text<44>
 }
 
 // Row i of main: what stands before it, then its words, which the last row may have fewer than four of.
+#[tactic(auto, using(crate::proofs::Lengths::upper_before_small, crate::proofs::Lengths::row_words_at, crate::proofs::Lengths::line_length, crate::proofs::Lengths::data_length))]
 fn row(main: &[u32], i: usize) -> Text<60>
     requires { (4 * i ≤ length main.now) × (i < 262144) }
     ensures { result ≡ row i main.now }
@@ -101,17 +102,17 @@ fn put_all(out: &mut [u8], main: &[u32]) -> usize
 }
 
 // The length of an export of n words.
+#[tactic(auto, unfolding(crate::specs::Exported::exported_length))]
 fn length_of(n: usize) -> usize
     requires { n ≤ 1048576 }
     ensures { result ≡ exported_length n }
 {
-    if n == 0 {
-        return 28;
-    }
-    12 + 16 * ((n + 16383) / 16384) + 12 * ((n + 3) / 4) + 8 * n
+    let blocks = if n == 0 { 1 } else { n.div_ceil(16384) };
+    12 + 16 * blocks + 12 * n.div_ceil(4) + 8 * n
 }
 
 // Main as Intel HEX, from the start of the output: how many bytes it wrote; those past them stay. A refused export writes no byte.
+#[tactic(auto, unfolding(crate::specs::Exported::export_answer), using(crate::proofs::Lengths::exported_length_is))]
 pub fn export_hex(main: &[u32], out: &mut [u8]) -> Result<usize, ExportRefusal>
     ensures { Exports main.now out.old result out.new }
 {

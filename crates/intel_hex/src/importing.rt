@@ -89,6 +89,7 @@ fn judge(text: &[u8], room: usize) -> Result<(), BadLine>
 }
 
 // The word of the first eight digits.
+#[tactic(auto, unfolding(crate::specs::Imported::word_of), using(crate::proofs::Bytes::is_byte))]
 fn word_of(text: &[u8]) -> u32
     requires { all_bytes (bytes 4 text.now) ≡ true }
     ensures { result ≡ word_of text.now }
@@ -112,6 +113,7 @@ fn store_words(main: &mut [u32], place: usize, count: usize, text: &[u8])
 }
 
 // The words that a line names go to main.
+#[tactic(auto, using(crate::proofs::Texts::line_room, crate::proofs::Texts::words_fit, crate::proofs::Texts::data_bytes_there))]
 fn store_line(main: &mut [u32], base: usize, line: Line, text: &[u8])
     requires { (line_of text.now ≡ Some line) × (has_words (length main.old) base line ≡ true) }
     ensures { main.new ≡ stored (named base (Some line) text.now) main.old }
@@ -145,6 +147,7 @@ fn store(main: &mut [u32], text: &[u8])
 
 // A text's words go to main, the last of a word named twice, and the other words stay; a refused text writes none. An accepted import
 // answers how many bytes of the trail are in use after it: none. After a refused one they are those that were.
+#[tactic(auto, unfolding(crate::specs::Imported::import_answer))]
 pub fn import_hex(main: &mut [u32], text: &[u8]) -> Result<usize, ImportRefusal>
     ensures { Imports main.old text.now result main.new }
 {

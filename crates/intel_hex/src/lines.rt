@@ -23,7 +23,7 @@ pub enum Line {
 }
 
 // The byte that two digits stand for at a place of the text.
-#[tactic(auto, unfolding(crate::specs::Digits::byte, crate::specs::Digits::byte_of), using(crate::proofs::Bytes::no_sign))]
+#[tactic(auto, unfolding(crate::specs::Digits::byte, crate::specs::Digits::byte_of), using(crate::proofs::Bytes::no_sign, crate::proofs::Bytes::byte_past, crate::proofs::Bytes::byte_short))]
 pub fn byte_at(text: &[u8], at: usize) -> Option<u8>
     ensures { result ≡ some_byte (byte (drop at text.now)) }
 {
@@ -58,7 +58,7 @@ fn ending_at(line: &[u8], at: usize) -> Option<usize>
 }
 
 // Whether the line has a record's colon, pairs, sum and ending.
-#[tactic(auto, unfolding(crate::specs::Lines::well_formed))]
+#[tactic(auto, unfolding(crate::specs::Lines::well_formed), using(crate::proofs::Fields::no_count))]
 fn is_well_formed(line: &[u8]) -> bool
     ensures { result ≡ well_formed line.now }
 {
