@@ -1,7 +1,7 @@
 -- A record of two or three bytes before L, byte by byte: what each byte must be, and that all else is broken.
 -- Assumes nothing.
 use Prim.Native.Nat.{ℕ, suc, ◌+◌, ◌-◌, ◌*◌, ◌/◌, ◌%◌, ◌^◌, ◌<◌, ◌≤◌}
-use mathlib.Core.Path.{◌≡◌, refl, ap, sym, ◌∙◌, subst}
+use mathlib.Core.Path.{◌≡◌, refl, ap, sym, ◌∙◌}
 use mathlib.Core.Bool.{Bool, true, false, cond}
 use mathlib.Core.Option.{Option, none, some}
 use mathlib.Core.List.{List, [], ◌∷◌}
@@ -240,9 +240,6 @@ module _ (kind : Kind) (s : List ℕ) (end k m : ℕ) (some_bytes : 2 ≤ k) (in
 
           pub more_marked : (m % 16 ≡ 0 → ⊥) → (m % 16 ≡ 1 → ⊥) → (m % 16 ≡ 2 → ⊥) → (m % 16 ≡ 4 → ⊥) → after_kind kind s end k ≡ broken_record
           more_marked z za zx zy = p_first ∙ ap (leaving (end - k - 1)) (more_left kind m b c h z za zx zy)
-
-pub pair_is : (s : List ℕ) (end : ℕ) {r t : Number} → r ≡ t → TwoBytes s end r → TwoBytes s end t
-pair_is s end e h = subst (TwoBytes s end) e h
 
 -- Four bytes stand before L, and something is marked: the kind, the marks, and two bytes.
 module _ (kind : Kind) (s : List ℕ) (end m : ℕ) (four : 4 ≤ end) (fits : end < length s) (mark : MarksAt s (end - 3) m) (some : m % 16 ≡ 0 → ⊥) where

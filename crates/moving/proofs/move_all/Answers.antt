@@ -20,6 +20,3 @@ returns-in_err-total c =
 
 pub write-requires : goal.write-requires
 write-requires c = moves c.args.new c.args.s.now c.args.out.now c.in_ok-n.ensures c.in_ok-total.ensures
-
-pub returns : goal.returns
-returns c = sym c.write.ensures

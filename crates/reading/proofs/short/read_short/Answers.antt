@@ -45,11 +45,6 @@ marks_read s end h fits read is =
     let m = is_byte s (end - 3) (end - 3 + 1) 64 refl (omega arith) (omega arith) read is in
     record { byte = m.0; small = m.1 }
 
-pub returns-in_default : goal.returns-in_default
-returns-in_default c =
-    let a = c.args in
-    λ main ports. no_byte a.trail.now (a.used - 1) a.used 5 (omega arith) (omega arith) (omega arith) c.read_number.ensures c.in_default.is
-
 pub returns-then-l-lt-SHORTEST : goal.returns-then-l-lt-SHORTEST
 returns-then-l-lt-SHORTEST c =
     let l = L c.args.trail.now c.args.used c.requires c.read_number.ensures c.in-Ok.is in
