@@ -64,23 +64,23 @@ pub starts : (kinds : Bool) (s : List ℕ) → Counting kinds s (length s) 0
 starts kinds s = record { found = []; whole = sym (after_none (records kinds s)); count = refl; few = omega arith }
 
 module _ {kinds : Bool} {s : List ℕ} {used n : ℕ} (g : Counting kinds s used n) where
-  module _ (h : 0 < used) {r : Result ℕ Broken} (p : r ≡ start_of (newest_in kinds (2 ^ 21) s used)) where
-    -- The newest begins after m bytes.
-    pub goes_on : {m : ℕ} → r ≡ Ok m → Counting kinds s m (n + 1) × (m < used)
-    goes_on {m} q =
-        begins (newest_in kinds (2 ^ 21) s used) m (sym p ∙ q) (Counting kinds s m (n + 1) × (m < used)) (λ e l.
-        let less = shorter kinds s used e m h l in (
-          record {
-            found = g.found ++ (e ∷ []);
-            whole = g.whole ∙ ap (after g.found) (ends_of kinds s used e m h l) ∙ after_one g.found e (records_of kinds s m);
-            count = omega (arith, g.count, length-append g.found (e ∷ []));
-            few = omega (arith, g.few);
-          },
-          less,
-        ))
+  pub stops : 0 < used → {e : Broken} → Err e ≡ start_of (newest_in kinds (2 ^ 21) s used) → count_of (records kinds s) ≡ Err (record {})
+  stops h {e} p = rw (g.whole, broken_of kinds s used h (lacks (newest_in kinds (2 ^ 21) s used) e (sym p)))
 
-    pub stops : {e : Broken} → r ≡ Err e → count_of (records kinds s) ≡ Err (record {})
-    stops {e} q = rw (g.whole, broken_of kinds s used h (lacks (newest_in kinds (2 ^ 21) s used) e (sym p ∙ q)))
+  -- The newest begins after m bytes.
+  module _ (h : 0 < used) {m : ℕ} (p : Ok m ≡ start_of (newest_in kinds (2 ^ 21) s used)) where
+    pub goes_down : m < used
+    goes_down = begins (newest_in kinds (2 ^ 21) s used) m (sym p) (m < used) (λ e l. shorter kinds s used e m h l)
+
+    pub goes_on : Counting kinds s m (n + 1)
+    goes_on =
+        let less = goes_down in
+        begins (newest_in kinds (2 ^ 21) s used) m (sym p) (Counting kinds s m (n + 1)) (λ e l. record {
+          found = g.found ++ (e ∷ []);
+          whole = g.whole ∙ ap (after g.found) (ends_of kinds s used e m h l) ∙ after_one g.found e (records_of kinds s m);
+          count = omega (arith, g.count, length-append g.found (e ∷ []));
+          few = omega (arith, g.few);
+        })
 
   pub ends : used ≤ 0 → count_of (records kinds s) ≡ Ok n
   ends h =

@@ -116,17 +116,17 @@ module _ {main ports : ℕ} {trail : List ℕ} {used : ℕ} {q : Place} {end bac
       let z : end ≡ 0 = omega arith in
       sym (g.whole ∙ ap (from_end main ports trail q (back + 1)) z ∙ none_of main ports trail q (back + 1))
 
-  module _ (h : 0 < end) {r : Result Newest Broken} (p : r ≡ newest_fitted main ports trail end) where
-    pub stops : {x : Broken} → r ≡ Err x → sought main ports trail used q ≡ Err refusal.Broken
-    stops e = g.whole ∙ broken_of main ports trail q (back + 1) end h (sym p ∙ e)
+  pub stops : 0 < end → {x : Broken} → Err x ≡ newest_fitted main ports trail end → sought main ports trail used q ≡ Err refusal.Broken
+  stops h e = g.whole ∙ broken_of main ports trail q (back + 1) end h (sym e)
 
-    module _ {o : OldValues} {n : ℕ} (e : r ≡ read_back o n) {t : Bool} (f : t ≡ holds q o) where
-      pub finds : t ≡ true → found (back + 1) o ≡ sought main ports trail used q
-      finds y = sym (g.whole ∙ here_of main ports trail q (back + 1) end o n h (sym p ∙ e) (sym f ∙ y))
+  module _ (h : 0 < end) {r : Newest} (e : Ok r ≡ newest_fitted main ports trail end) where
+    pub finds : holds q r.values ≡ true → found (back + 1) r.values ≡ sought main ports trail used q
+    finds y = sym (g.whole ∙ here_of main ports trail q (back + 1) end r.values r.left h (sym e) y)
 
-      pub goes_on : t ≡ false → Seeking main ports trail used q n (back + 1) × (n < end)
-      goes_on y =
-          let s = shorter main ports trail end o n h (sym p ∙ e) in (
-            record { inside = g.inside; few = omega (arith, g.few); whole = g.whole ∙ older_of main ports trail q (back + 1) end o n h (sym p ∙ e) (sym f ∙ y) },
-            s,
-          )
+    pub goes_down : r.left < end
+    goes_down = shorter main ports trail end r.values r.left h (sym e)
+
+    pub goes_on : holds q r.values ≡ false → Seeking main ports trail used q r.left (back + 1)
+    goes_on y =
+        let s = goes_down in
+        record { inside = g.inside; few = omega (arith, g.few); whole = g.whole ∙ older_of main ports trail q (back + 1) end r.values r.left h (sym e) y }

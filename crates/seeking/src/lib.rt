@@ -50,6 +50,7 @@ fn holds(place: Place, o: OldValues) -> bool
 
 // The newest record that holds the place, if one does, in a trail of which `used` bytes are in use, beside stores of these lengths.
 // The walk goes from where a record begins to where the one before it does, so no range and no iterator of std gives its places.
+#[tactic(auto, using(crate::proofs::Walking::too_large, crate::proofs::Walking::starts, crate::proofs::Walking::stops, crate::proofs::Walking::finds, crate::proofs::Walking::goes_down, crate::proofs::Walking::ends))]
 pub fn find(
     main_words: usize,
     ports_words: usize,
