@@ -47,10 +47,17 @@ fn constant_or_read(
     if at > 0xF_FFFF {
         return Err(NoOperand::Bad);
     }
+    // By a match: `ok_or` cost a read twelve instructions.
     if port {
-        return word_in(ports, at).ok_or(NoOperand::Unfitted);
+        return match word_in(ports, at) {
+            Some(v) => Ok(v),
+            None => Err(NoOperand::Unfitted),
+        };
     }
-    word_in(main, at).ok_or(NoOperand::Unfitted)
+    match word_in(main, at) {
+        Some(v) => Ok(v),
+        None => Err(NoOperand::Unfitted),
+    }
 }
 
 // M of a function for A, X or Y: a shift has none, and function 2 reads a port.
