@@ -1,19 +1,15 @@
 -- Texts put one after the other are one text put: what the second leaves before its place is what the first put.
 -- Assumes nothing.
-use Prim.Native.Nat.{ℕ, ◌+◌, ◌≤◌, ◌<◌}
-use mathlib.Core.Path.{◌≡◌, refl, sym, ◌∙◌}
-use mathlib.Core.List.{List, [], ◌∷◌, ◌++◌, append_assoc, append-nil}
+use Prim.Native.Nat.{ℕ, ◌≤◌}
+use mathlib.Core.Path.{◌≡◌, sym, ◌∙◌}
+use mathlib.Core.List.{List, [], ◌++◌, append_assoc, append-nil}
 use native.Mathlib.Omega.{arith}
-use native.Mathlib.Numerals.{add-one}
-use lib.ListN.{length, take, drop, set, length-append, take-append-drop}
-use lib.Seq.{take_at, drop-append-add, drop-drop, length-take-le, set_split}
+use lib.ListN.{length, take, drop, length-append, take-append-drop}
+use lib.Seq.{take_at, drop-append-add, drop-drop, length-take-le}
 use Rattle.text.specs.Placed.{Placed}
 
 pub put_nothing : (at : ℕ) (d : List ℕ) → Placed at [] d at d
 put_nothing at d = record { next_is = omega arith; after_is = rw append-nil (sym (take-append-drop at d)) }
-
-pub put_one : (at b : ℕ) (d : List ℕ) → at < length d → Placed at (b ∷ []) d (at + 1) (set d at b)
-put_one at b d h = record { next_is = refl; after_is = rw (add-one, append_assoc) (set_split d at b h) }
 
 pub put_then : {at i j : ℕ} {s t d e f : List ℕ}
     → at ≤ length d

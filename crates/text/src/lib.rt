@@ -5,6 +5,6 @@ mod put;
 mod read;
 mod texts;
 
-pub use put::{digit_of, put_byte, put_text};
+pub use put::put_text;
 pub use read::digit_value;
 pub use texts::Text;

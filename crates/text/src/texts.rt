@@ -1,8 +1,7 @@
 // A text made from its start, of at most N bytes.
 ghost use Rattle.std.specs.Prelude.{◌≡◌, ℕ, List, ◌+◌, ◌≤◌, ◌<◌, [], ◌∷◌, ◌++◌, length, take};
-ghost use Rattle.text.specs.Digits.{decimal, hex};
+ghost use Rattle.text.specs.Digits.{digit, decimal, hex};
 
-use super::put::digit_of;
 use std::marker::Model;
 
 // A text of at most N bytes, to which more is added at the end.
@@ -79,6 +78,17 @@ impl<const N: usize> Text<N> {
         fill_hex(&mut bytes[self.used..next], n);
         self.used = next;
     }
+}
+
+// The digit of a value below 16.
+fn digit_of(value: usize) -> u8
+    requires { value < 16 }
+    ensures { result ≡ digit value }
+{
+    if value < 10 {
+        return b'0' + value as u8;
+    }
+    b'A' + (value - 10) as u8
 }
 
 #[tactic(auto, using(crate::proofs::Digits::decimal_last, crate::proofs::Digits::decimal_more))]
