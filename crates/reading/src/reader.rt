@@ -39,6 +39,7 @@ impl<'a> TrailReader<'a> {
     }
 
     // The number below `bound` that stands next. The reader then stands after it, or where it stood if the number is broken.
+    #[inline(always)]
     pub(crate) fn next_number(&mut self, bound: u64) -> Result<u32, Broken>
         requires { bound ≤ 2 ^ 32 }
         ensures reads { read_below bound self.old ≡ read_of result self.new }
@@ -50,6 +51,7 @@ impl<'a> TrailReader<'a> {
     }
 
     // The same, if it is marked; else 0, and no byte is read.
+    #[inline(always)]
     pub(crate) fn next_if(&mut self, marked: bool, bound: u64) -> Result<u32, Broken>
         requires { bound ≤ 2 ^ 32 }
         ensures reads { read_if marked bound self.old ≡ read_of result self.new }
