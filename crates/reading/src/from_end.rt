@@ -1,5 +1,5 @@
 // The newest record, read back from the end of the bytes in use (document 01, "The trail"). No trail byte is written here.
-ghost use Rattle.std.specs.Prelude.{◌≡◌, ◌+◌, ◌^◌, ◌<◌, ◌≤◌, length};
+ghost use Rattle.std.specs.Prelude.{◌≡◌, ◌^◌, ◌<◌, ◌≤◌, length};
 ghost use Rattle.std.proofs.Math.Seq.{slice};
 ghost use Rattle.trail.specs.Newest.{leaving, read_in_form, newest_fitted};
 ghost use Rattle.reading.specs.Finding.{word_fits};

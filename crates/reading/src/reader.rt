@@ -1,6 +1,6 @@
 // The trail reader: the lent bytes, a place in them, and the end of what is to be read (document 01, "A form for each place").
 // It is thin: the work is `read_number`'s.
-ghost use Rattle.std.specs.Prelude.{◌≡◌, ◌^◌, ◌≤◌, [], length, eqb};
+ghost use Rattle.std.specs.Prelude.{◌≡◌, ◌^◌, ◌≤◌, length, eqb};
 ghost use Rattle.std.specs.Result.{OnErr};
 ghost use Rattle.std.proofs.Math.Seq.{slice};
 ghost use Rattle.trail.specs.Numbers.{read_below, read_if};
