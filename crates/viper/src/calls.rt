@@ -59,6 +59,7 @@ fn machine_held(sources: &[u32; 4], p: u32, b: bool, stop: bool) -> Machine
 
 // Steps until STOP is set, the budget is used up, or a step is refused. It alone steps. In the loop the machine is in pieces: A, X and Y, with
 // a fourth place for N, are an array, so that a step finds a register by its number.
+// The loop is no range over the budget: STOP is asked before the budget is, and the steps done are an answer.
 fn advance(
     m: Machine,
     main: &mut [u32],
