@@ -9,6 +9,8 @@ use crate::{Kind, OldValues, TrailFull};
 use std::marker::Model;
 
 // Adds a record, whose bytes before L stand in two parts, right after the bytes in use. It is the only function that writes a byte of the trail.
+// It and `add_value` are put in line first, so that a short record's length is a constant: left to the compiler, a step took six instructions more.
+#[inline(always)]
 #[tactic(auto, unfolding(crate::specs::Records::added))]
 pub(crate) fn add_parts(
     trail: &mut [u8],

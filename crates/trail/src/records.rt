@@ -104,6 +104,7 @@ pub fn add_flags(
 // Adds a record of these first bytes and a value: n bytes hold what is below the n-th power of 128. The low groups are written out for each
 // length: held in a local, they made a step up to three instructions longer. The count of the first bytes is a constant, and so is each record's
 // length.
+#[inline(always)]
 fn add_value<const HEAD: usize>(
     trail: &mut [u8],
     used: usize,
