@@ -1,14 +1,13 @@
--- A record copied byte by byte right after the bytes in use: at every turn the trail is the old one with the first bytes of the record pasted in.
+-- A record put right after the bytes in use: its head, its tail and L, one after the other.
 -- Assumes nothing.
 use Prim.Native.Nat.{ℕ, suc, ◌+◌, ◌-◌, ◌<◌, ◌≤◌}
-use mathlib.Core.Path.{◌≡◌, ap, ◌∙◌}
+use mathlib.Core.Path.{◌≡◌, ap}
 use mathlib.Core.List.{List, [], ◌∷◌, ◌++◌, append_assoc}
 use native.Mathlib.Omega.{arith}
-use native.Mathlib.Numerals.{add-one}
 use borrow.Author.Tests.{le-ltb}
 use borrow.Rule.Slice.PartMut.{put_mid}
-use lib.ListN.{length, take, drop, get_or, set, length-set, length-append, length-take, length-drop}
-use lib.Seq.{paste, paste-suc, take_at, drop_at, set_at, drop-cons, drop-drop}
+use lib.ListN.{length, take, drop, get_or, set, length-append, length-take, length-drop}
+use lib.Seq.{take_at, drop_at, set_at, drop-cons, drop-drop}
 use Rattle.std.specs.Prelude.{Result, Ok}
 use Rattle.trail.specs.declared.TrailFull.{TrailFull}
 use Rattle.trail.specs.OneChange.{closed}
@@ -58,24 +57,3 @@ parts_added trail used head tail {a} {b} {j} {k} h l ea eb ej ek =
     let m : used + length (head ++ tail) + 1 ≡ used + length (closed (head ++ tail)) = omega (arith, n, length-append head tail) in
     rw (ea, eb, ej, ek, le-ltb (length trail - used) (length (closed (head ++ tail))) (omega (arith, n)), put_first trail used head, put_more trail used head tail h, ← length-append head tail, put_byte trail used (head ++ tail) (length (head ++ tail)) (omega (arith, length-append head tail)))
     (ap (λ (t : ℕ). (Ok t, put trail used (closed (head ++ tail)))) m)
-
--- ---- the copy
-
--- Of the n bytes of b, the first i are copied.
-pub record Copying (old : List ℕ) (used : ℕ) (b : List ℕ) (n : ℕ) (new : List ℕ) (i : ℕ) : Type 0 where
-  pub some : i ≤ n
-  pub held : n ≤ length b
-  pub room : used + n ≤ length old
-  pub size : length new ≡ length old
-  pub whole : new ≡ paste old used b i
-
-module _ {old : List ℕ} {used : ℕ} {b : List ℕ} {n : ℕ} {new : List ℕ} {i : ℕ} (g : Copying old used b n new i) where
-  pub goes_on : i < n → Copying old used b n (set new (used + i) (get_or b i 0)) (i + 1)
-  goes_on h =
-      record {
-        some = omega arith;
-        held = g.held;
-        room = g.room;
-        size = length-set new (used + i) (get_or b i 0) ∙ g.size;
-        whole = rw (g.whole, add-one) (paste-suc old used b i 0 (omega (arith, g.room)) (omega (arith, g.held)));
-      }

@@ -34,9 +34,6 @@ groups_few (suc k) n h = go (ltb n 128) refl (groups_few k (n / 128))
     go true e ih = rw (groups_one n (ltb-true n 128 e)) (omega arith)
     go false e ih = rw (groups_more n (ltb-false n 128 e)) (omega (arith, ltb-false n 128 e, ih (omega (arith, ltb-false n 128 e))))
 
-pub same_length : {m n : ℕ} → m ≡ n → length (groups m) ≡ length (groups n)
-same_length e = ap (λ (k : ℕ). length (groups k)) e
-
 -- ---- the numbers of a record
 
 if_few : (t : Bool) (k bound n : ℕ) → bound ≤ cap k → GoodIf t bound n → length (bytes_if t n) ≤ (k + 1) * BV t
