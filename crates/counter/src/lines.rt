@@ -26,6 +26,7 @@ fn push_flag(line: &mut Line, label: &[u8], set: bool)
     line.push(if set { b'1' } else { b'0' });
 }
 
+// The registers and flags: 49 bytes.
 fn push_registers(line: &mut Line, m: Machine)
     requires { length line.old + 49 ≤ 160 }
     ensures { line.new ≡ line.old ++ registers m }
@@ -38,6 +39,7 @@ fn push_registers(line: &mut Line, m: Machine)
     push_flag(line, b" S ", m.stop);
 }
 
+// The ending's name.
 fn name(ending: Ending) -> &'static [u8]
     ensures { result.now ≡ name ending }
 {
@@ -49,6 +51,7 @@ fn name(ending: Ending) -> &'static [u8]
     }
 }
 
+// The bytes in use: 28 bytes at most.
 #[tactic(auto, unfolding(crate::specs::Lines::in_use), using(text::proofs::Digits::twenty_digits))]
 fn push_in_use(line: &mut Line, used: usize)
     requires { length line.old + 28 ≤ 160 }
