@@ -6,6 +6,7 @@ use mathlib.Core.Bool.{Bool, true, false, cond, ◌&&◌}
 use mathlib.Core.List.{List, [], ◌∷◌, ◌++◌}
 use native.Mathlib.Omega.{arith}
 use native.Mathlib.Nat.{add-zero, zero-add}
+use Rattle.std.proofs.lemmas.Bool.{and_parts}
 use lib.Dec.{ltb, eqb}
 use lib.ListN.{length, get_or, drop, drop_of_length-le, get_or-eq_default}
 use lib.Seq.{get_or-drop, drop-drop}
@@ -16,13 +17,6 @@ use Rattle.std.specs.Prelude.{sum, Option, Some, None}
 use Rattle.std.proofs.lemmas.List.Sums.{sum_by_push}
 use native.Mathlib.Numerals.{add-one}
 use Rattle.intel_hex.specs.Lines.{bytes, all_bytes, summed, ending_of, ending}
-
-pub clash : {A : Type 0} → ◌≡◌ {A = ℕ} 0 1 → A
-clash z = absurd (omega arith)
-
-pub and_true : (a b : Bool) → (a && b) ≡ true → (a ≡ true) × (b ≡ true)
-and_true true b e = (refl, e)
-and_true false b e = clash (cc)
 
 module _ (high low : ℕ) where
   pub no_high : 16 ≤ high → byte_of high low ≡ 256
@@ -75,10 +69,9 @@ module _ (text : List ℕ) (at : ℕ) where
           absurd (omega arith)
 
 pub none_there : {A : Type 0} {n : ℕ} → n < 256 → ◌≡◌ {A = Option ℕ} None (some_byte n) → A
-none_there {n = n} h e = go (rw (lt-ltb n 256 h) at e)
-  where
-    go : {A : Type 0} → ◌≡◌ {A = Option ℕ} None (Some n) → A
-    go q = clash (cc)
+none_there {n = n} h e =
+    let f : ◌≡◌ {A = Option ℕ} None (Some n) = rw (lt-ltb n 256 h) at e in
+    cc
 
 pub no_byte : (n : ℕ) → ◌≡◌ {A = Option ℕ} None (some_byte n) → 256 ≤ n
 no_byte n e = go (ltb n 256) refl
@@ -92,14 +85,14 @@ is_byte n b e = go (ltb n 256) refl e
   where
     go : (t : Bool) → ltb n 256 ≡ t → ◌≡◌ {A = Option ℕ} (Some b) (cond t (Some n) None) → (b ≡ n) × (n < 256)
     go true q f = (cc, ltb-true n 256 q)
-    go false q f = clash (cc)
+    go false q f = cc
 
 -- Of bytes in a row each is one.
 pub each_byte : (k j : ℕ) (signs : List ℕ) → all_bytes (bytes k signs) ≡ true → j < k → byte (drop (2 * j) signs) < 256
 each_byte zero j signs e h = absurd (omega arith)
-each_byte (suc k) zero signs e h = ltb-true (byte signs) 256 (and_true (ltb (byte signs) 256) (all_bytes (bytes k (drop 2 signs))) e).0
+each_byte (suc k) zero signs e h = ltb-true (byte signs) 256 (and_parts (ltb (byte signs) 256) (all_bytes (bytes k (drop 2 signs))) e).0
 each_byte (suc k) (suc j) signs e h =
-    let t = (and_true (ltb (byte signs) 256) (all_bytes (bytes k (drop 2 signs))) e).1 in
+    let t = (and_parts (ltb (byte signs) 256) (all_bytes (bytes k (drop 2 signs))) e).1 in
     let m : 2 + 2 * j ≡ 2 * suc j = omega arith in
     let d : drop (2 * j) (drop 2 signs) ≡ drop (2 * suc j) signs = rw (drop-drop (2 * j) 2 signs, m) in
     rw d at (each_byte k j (drop 2 signs) t (omega arith))
@@ -109,7 +102,7 @@ bytes_after zero k signs e = rw zero-add at e
 bytes_after (suc j) k signs e =
     let n : suc j + k ≡ suc (j + k) = omega arith in
     let e' : all_bytes (bytes (suc (j + k)) signs) ≡ true = rw n at e in
-    let t = (and_true (ltb (byte signs) 256) (all_bytes (bytes (j + k) (drop 2 signs))) e').1 in
+    let t = (and_parts (ltb (byte signs) 256) (all_bytes (bytes (j + k) (drop 2 signs))) e').1 in
     let m : 2 + 2 * j ≡ 2 * suc j = omega arith in
     let d : drop (2 * j) (drop 2 signs) ≡ drop (2 * suc j) signs = rw (drop-drop (2 * j) 2 signs, m) in
     rw d at (bytes_after j k (drop 2 signs) t)
@@ -119,13 +112,13 @@ bytes_before zero j signs e = refl
 bytes_before (suc k) j signs e =
     let n : suc k + j ≡ suc (k + j) = omega arith in
     let e' : all_bytes (bytes (suc (k + j)) signs) ≡ true = rw n at e in
-    let t = and_true (ltb (byte signs) 256) (all_bytes (bytes (k + j) (drop 2 signs))) e' in
+    let t = and_parts (ltb (byte signs) 256) (all_bytes (bytes (k + j) (drop 2 signs))) e' in
     rw t.0 (bytes_before k j (drop 2 signs) t.1)
 
 pub all_append : (a b : List ℕ) → all_bytes a ≡ true → all_bytes b ≡ true → all_bytes (a ++ b) ≡ true
 all_append [] b e f = f
 all_append (x ∷ a) b e f =
-    let t = and_true (ltb x 256) (all_bytes a) e in
+    let t = and_parts (ltb x 256) (all_bytes a) e in
     rw t.0 (all_append a b t.1 f)
 
 -- One byte more.

@@ -13,7 +13,6 @@ use Rattle.intel_hex.specs.Lines.{size_of, line_of}
 use Rattle.intel_hex.specs.Imported.{named, turn_of, Text, after_line, text_of, verdict}
 use Rattle.intel_hex.specs.declared.importing.Turn.{Turn}
 use Rattle.intel_hex.specs.declared.importing.Turn.TheVariants.{On, Ended}
-use Rattle.intel_hex.proofs.Bytes.{clash}
 use Rattle.intel_hex.proofs.Texts.{on_within, size_some, text_bad, ended_more, text_ended, text_on, not_good}
 
 -- Line n of a text, from 1, is the first bad one, where the 64 KiB at `base` count first.
@@ -47,7 +46,7 @@ found (suc k) room base t n h e = go (turn_of room base (line_of t)) refl (λ b 
     go (Some Ended) q more = ended (eqb (length (drop (size_of t) t)) 0) refl (sym (text_ended room base t q) ∙ e)
       where
         ended : (b : Bool) → eqb (length (drop (size_of t) t)) 0 ≡ b → ◌≡◌ {A = Text} (cond b (Ok []) (Err 2)) (Err n) → BadAt room base t n
-        ended true g f = clash (cc)
+        ended true g f = cc
         ended false g f =
             let s : 2 ≡ n = same_number f in
             let d = length-drop (size_of t) t in
@@ -55,7 +54,7 @@ found (suc k) room base t n h e = go (turn_of room base (line_of t)) refl (λ b 
     go (Some (On b)) q more = on (text_of room b (drop (size_of t) t)) refl (sym (text_on room base t q) ∙ e)
       where
         on : (x : Text) → text_of room b (drop (size_of t) t) ≡ x → after_line (named base (line_of t) t) x ≡ Err n → BadAt room base t n
-        on (Ok ws) g f = clash (cc)
+        on (Ok ws) g f = cc
         on (Err m) g f =
             let s : suc m ≡ n = same_number f in
             let w = on_within room base t q in

@@ -8,6 +8,7 @@ use mathlib.Core.List.{List, [], ◌∷◌, ◌++◌, append_assoc}
 use native.Mathlib.Omega.{arith}
 use Rattle.std.specs.Prelude.{sum}
 use Rattle.std.proofs.lemmas.List.Sums.{sum_by_from, sum_by_push}
+use Rattle.std.proofs.lemmas.Bool.{and_parts}
 use lib.Dec.{ltb}
 use lib.ListN.{length, drop, length-append}
 use lib.Seq.{drop_at, drop-drop}
@@ -18,7 +19,7 @@ use Rattle.intel_hex.specs.Layout.{pairs, sum_byte, head_bytes, record_line, wor
 use Rattle.intel_hex.specs.Lines.{bytes, all_bytes, summed, count_of, address_of, type_of, size_of, well_formed, by_type, layout_of, line_of}
 use Rattle.intel_hex.specs.Imported.{word_of}
 use Rattle.intel_hex.specs.Returns.{first_choice, other_choices, with_returns}
-use Rattle.intel_hex.proofs.Bytes.{and_true, all_append, both, summed_is}
+use Rattle.intel_hex.proofs.Bytes.{all_append, both, summed_is}
 use Rattle.intel_hex.proofs.Lengths.{pairs_append, pairs_length}
 use Rattle.intel_hex.proofs.Returns.{feed, feed_size, feed_ends, feed_some, after_feed, feed_chosen, others_stay, pairs_stay}
 
@@ -35,7 +36,7 @@ byte_again x more h =
 bytes_again : (bs rest : List ℕ) → all_bytes bs ≡ true → bytes (length bs) (pairs bs ++ rest) ≡ bs
 bytes_again [] rest e = refl
 bytes_again (b ∷ bs) rest e =
-    let t = and_true (ltb b 256) (all_bytes bs) e in
+    let t = and_parts (ltb b 256) (all_bytes bs) e in
     rw (byte_again b (pairs bs ++ rest) (ltb-true b 256 t.0), bytes_again bs rest t.1)
 
 sum_byte_small : (total : ℕ) → sum_byte total < 256

@@ -6,7 +6,8 @@ use mathlib.Core.Bool.{Bool, true, false, cond, ◌&&◌}
 use mathlib.Core.List.{List, [], ◌∷◌, ◌++◌}
 use native.Mathlib.Omega.{arith}
 use Rattle.std.specs.Prelude.{Option, Some, None, Result, Ok, Err}
-use Rattle.std.proofs.lemmas.Option.{some_pair_parts}
+use Rattle.std.proofs.lemmas.Option.{cond_some, some_pair_parts}
+use Rattle.std.proofs.lemmas.Bool.{and_parts}
 use lib.Dec.{leb, ltb, eqb}
 use lib.ListN.{length, get_or, drop, set, length-drop}
 use lib.Seq.{drop-drop}
@@ -20,7 +21,7 @@ use Rattle.intel_hex.specs.declared.lines.Line.TheVariants.{Data, Upper, End}
 use Rattle.intel_hex.specs.declared.importing.Turn.{Turn}
 use Rattle.intel_hex.specs.declared.importing.Turn.TheVariants.{On, Ended}
 use Rattle.intel_hex.specs.declared.importing.BadLine.{BadLine}
-use Rattle.intel_hex.proofs.Bytes.{clash, and_true, each_byte, bytes_after, bytes_before, byte_within, ending_within, summed_none}
+use Rattle.intel_hex.proofs.Bytes.{each_byte, bytes_after, bytes_before, byte_within, ending_within, summed_none}
 
 -- Of words in a row each is four bytes.
 pub first_word : (signs : List ℕ) (k : ℕ) → 0 < k → all_bytes (bytes (4 * k) signs) ≡ true → all_bytes (bytes 4 signs) ≡ true
@@ -61,7 +62,7 @@ module _ (t : List ℕ) (shape : well_formed t ≡ true) where
   after_colon : (eqb (summed (bytes (count_of t + 5) (drop 1 t))) 0 && ltb 0 (ending (drop (signs_of t) t))) ≡ true
   unfolding well_formed
   after_colon =
-      (and_true
+      (and_parts
       (eqb (get_or t 0 0) 58)
       (eqb (summed (bytes (count_of t + 5) (drop 1 t))) 0 && ltb 0 (ending (drop (signs_of t) t)))
       shape
@@ -70,13 +71,13 @@ module _ (t : List ℕ) (shape : well_formed t ≡ true) where
   pub line_bytes : all_bytes (bytes (count_of t + 5) (drop 1 t)) ≡ true
   line_bytes =
       let s = summed (bytes (count_of t + 5) (drop 1 t)) in
-      summed_none (bytes (count_of t + 5) (drop 1 t)) (eqb-true s 0 (and_true (eqb s 0) (ltb 0 (ending (drop (signs_of t) t))) after_colon).0)
+      summed_none (bytes (count_of t + 5) (drop 1 t)) (eqb-true s 0 (and_parts (eqb s 0) (ltb 0 (ending (drop (signs_of t) t))) after_colon).0)
 
   pub ending_some : 0 < ending (drop (signs_of t) t)
   ending_some =
       let rest = drop (signs_of t) t in
       let s = summed (bytes (count_of t + 5) (drop 1 t)) in
-      ltb-true 0 (ending rest) (and_true (eqb s 0) (ltb 0 (ending rest)) after_colon).1
+      ltb-true 0 (ending rest) (and_parts (eqb s 0) (ltb 0 (ending rest)) after_colon).1
 
   pub size_within : size_of t ≤ length t
   unfolding size_of
@@ -97,44 +98,23 @@ size_some t = omega arith
 
 pub line_room : (t : List ℕ) {l : Line} → line_of t ≡ Some l → (size_of t ≤ length t) × (12 ≤ size_of t)
 line_room t {l} e =
-    let w = shaped t (λ q. clash (apart e q)) in
+    let w = shaped t (λ q. cc) in
     (size_within t w, size_twelve t w)
-  where
-    apart : line_of t ≡ Some l → line_of t ≡ None → ◌≡◌ {A = ℕ} 0 1
-    apart p q = cc
 
 module _ (room base : ℕ) (t : List ℕ) where
-  pub line_within : (turn_of room base (line_of t) ≡ None → ⊥) → size_of t ≤ length t
-  line_within g = size_within t (shaped t (λ q. g (rw q)))
-
-  good_shape : (turn_of room base (line_of t) ≡ None → ⊥) → (size_of t ≤ length t) × (12 ≤ size_of t)
-  good_shape g =
+  good_room : (turn_of room base (line_of t) ≡ None → ⊥) → (size_of t ≤ length t) × (12 ≤ size_of t)
+  good_room g =
       let w = shaped t (λ q. g (rw q)) in
       (size_within t w, size_twelve t w)
 
   pub on_twelve : {b : ℕ} → turn_of room base (line_of t) ≡ Some (On b) → (size_of t ≤ length t) × (12 ≤ size_of t)
-  on_twelve {b} e = good_shape (λ q. clash (sames e q))
-    where
-      sames : turn_of room base (line_of t) ≡ Some (On b) → turn_of room base (line_of t) ≡ None → ◌≡◌ {A = ℕ} 0 1
-      sames e q = cc
+  on_twelve e = good_room (λ q. cc)
 
   pub ended_twelve : turn_of room base (line_of t) ≡ Some Ended → (size_of t ≤ length t) × (12 ≤ size_of t)
-  ended_twelve e = good_shape (λ q. clash (sames e q))
-    where
-      sames : turn_of room base (line_of t) ≡ Some Ended → turn_of room base (line_of t) ≡ None → ◌≡◌ {A = ℕ} 0 1
-      sames e q = cc
+  ended_twelve e = good_room (λ q. cc)
 
   pub on_within : {b : ℕ} → turn_of room base (line_of t) ≡ Some (On b) → size_of t ≤ length t
-  on_within {b} e = line_within (λ q. clash (sames e q))
-    where
-      sames : turn_of room base (line_of t) ≡ Some (On b) → turn_of room base (line_of t) ≡ None → ◌≡◌ {A = ℕ} 0 1
-      sames e q = cc
-
-  pub ended_within : turn_of room base (line_of t) ≡ Some Ended → size_of t ≤ length t
-  ended_within e = line_within (λ q. clash (sames e q))
-    where
-      sames : turn_of room base (line_of t) ≡ Some Ended → turn_of room base (line_of t) ≡ None → ◌≡◌ {A = ℕ} 0 1
-      sames e q = cc
+  on_within e = (on_twelve e).0
 
 -- Once there is fuel for every byte, how much there is does not matter.
 enough : (k l room base : ℕ) (t : List ℕ) → length t < k → length t < l → text_in k room base t ≡ text_in l room base t
@@ -178,7 +158,7 @@ module _ (room base : ℕ) (t : List ℕ) where
 
   pub ended_more : turn_of room base (line_of t) ≡ Some Ended → (length t ≡ size_of t → ⊥) → text_of room base t ≡ Err 2
   ended_more e g =
-      let w = ended_within room base t e in
+      let w = ended_twelve room base t e in
       let d = length-drop (size_of t) t in
       text_ended e ∙ rw (ne_eqb (length (drop (size_of t) t)) 0 (λ z. g (omega arith)))
 
@@ -208,7 +188,7 @@ after_one k ws (Err n) = bad_line_at (omega arith)
 pub good_after : (ws : List (ℕ × ℕ)) (x : Text) → verdict (after_line ws x) ≡ Ok tt
     → (verdict x ≡ Ok tt) × (words_in (after_line ws x) ≡ ws ++ words_in x)
 good_after ws (Ok more) e = (refl, refl)
-good_after ws (Err n) e = clash (cc)
+good_after ws (Err n) e = cc
 
 pub stored_append : (a b : List (ℕ × ℕ)) (main : List ℕ) → stored (a ++ b) main ≡ stored b (stored a main)
 stored_append [] b main = refl
@@ -222,7 +202,7 @@ on_has_words room base b (Data s) e = go (has_words room base (Data s)) refl
     go true q = q
     go false q =
         let f : ◌≡◌ {A = Option Turn} None (Some (On b)) = rw q at e in
-        clash (cc)
+        cc
 on_has_words room base b (Upper u) e = refl
 on_has_words room base b End e = refl
 
@@ -232,18 +212,6 @@ words_fit room base s g e =
     leb-true (base + s.first + s.words) room f
 
 -- A data record's words are its bytes by four.
-not_end : {A : Type 0} (b : Bool) (s : Span) → cond b (Some End) None ≡ Some (Data s) → A
-not_end true s e = clash (cc)
-not_end false s e = clash (cc)
-
-not_upper : {A : Type 0} (b : Bool) (u : ℕ) (s : Span) → cond b (Some (Upper u)) None ≡ Some (Data s) → A
-not_upper true u s e = clash (cc)
-not_upper false u s e = clash (cc)
-
-data_only : (b : Bool) (d s : Span) → cond b (Some (Data d)) None ≡ Some (Data s) → (b ≡ true) × (d ≡ s)
-data_only true d s e = (refl, cc)
-data_only false d s e = clash (cc)
-
 data_count : (type count address upper : ℕ) (s : Span) → by_type type count address upper ≡ Some (Data s) → 4 * s.words ≡ count
 unfolding by_type data_line end_of upper_of
 data_count type count address upper s e = go (eqb type 0) (eqb type 1) (eqb type 4) e
@@ -256,12 +224,17 @@ data_count type count address upper s e = go (eqb type 0) (eqb type 1) (eqb type
         → 4 * s.words ≡ count
     go true q r f =
         let test = eqb (count % 4) 0 && (eqb (address % 4) 0 && leb (address + count) 65536) in
-        let o = data_only test d s f in
-        let m = eqb-true (count % 4) 0 (and_true (eqb (count % 4) 0) (eqb (address % 4) 0 && leb (address + count) 65536) o.0).0 in
-        omega (arith, ap (λ (x : Span). x.words) o.1)
-    go false true r f = not_end (eqb count 0 && eqb address 0) s f
-    go false false true f = not_upper (eqb count 2 && eqb address 0) (16384 * upper) s f
-    go false false false f = clash (cc)
+        let o = cond_some test (Data d) (Data s) f in
+        let m = eqb-true (count % 4) 0 (and_parts (eqb (count % 4) 0) (eqb (address % 4) 0 && leb (address + count) 65536) o.0).0 in
+        let same : d ≡ s = cc in
+        omega (arith, ap (λ (x : Span). x.words) same)
+    go false true r f =
+        let o = cond_some (eqb count 0 && eqb address 0) End (Data s) f in
+        cc
+    go false false true f =
+        let o = cond_some (eqb count 2 && eqb address 0) (Upper (16384 * upper)) (Data s) f in
+        cc
+    go false false false f = cc
 
 shape_opens : (t : List ℕ) {l : Option Line} → well_formed t ≡ true → line_of t ≡ l → layout_of t ≡ l
 unfolding line_of
@@ -273,28 +246,16 @@ layout_count t s e = data_count (type_of t) (count_of t) (address_of t) (256 * b
 
 pub data_bytes_there : (t : List ℕ) (s : Span) → line_of t ≡ Some (Data s) → all_bytes (bytes (4 * s.words) (drop 9 t)) ≡ true
 data_bytes_there t s e =
-    let shape = shaped t (λ q. clash (apart e q)) in
-    let f : layout_of t ≡ Some (Data s) = opened shape e in
-    let n : count_of t + 5 ≡ 4 + (4 * s.words + 1) = omega (arith, counted f) in
+    let shape = shaped t (λ q. cc) in
+    let n : count_of t + 5 ≡ 4 + (4 * s.words + 1) = omega (arith, layout_count t s (shape_opens t shape e)) in
     let all : all_bytes (bytes (4 + (4 * s.words + 1)) (drop 1 t)) ≡ true = rw n at (line_bytes t shape) in
     let rest : all_bytes (bytes (4 * s.words + 1) (drop 9 t)) ≡ true = rw (drop-drop 8 1 t) at (bytes_after 4 (4 * s.words + 1) (drop 1 t) all) in
     bytes_before (4 * s.words) 1 (drop 9 t) rest
-  where
-    apart : line_of t ≡ Some (Data s) → line_of t ≡ None → ◌≡◌ {A = ℕ} 0 1
-    apart p q = cc
-
-    opened : well_formed t ≡ true → line_of t ≡ Some (Data s) → layout_of t ≡ Some (Data s)
-    opened = shape_opens t
-
-    counted : layout_of t ≡ Some (Data s) → 4 * s.words ≡ count_of t
-    counted = layout_count t s
 
 pub not_good : {A : Type 0} {x : Text} {n : ℕ} → x ≡ Err n → verdict x ≡ Ok tt → A
 not_good {A} {x} {n} e f =
-    not_both (rw e at f)
-  where
-    not_both : verdict (Err n) ≡ Ok tt → A
-    not_both g = clash (cc)
+    let g : verdict (Err n) ≡ Ok tt = rw e at f in
+    cc
 
 -- A good text goes on good after a good line, and its words are stored after the line's.
 pub stored_on : (room base : ℕ) {b : ℕ} (t main : List ℕ)
@@ -311,12 +272,12 @@ stored_on room base {b} t main e v =
 
 -- What is read of a line is read with its bytes.
 pub no_size : {A : Type 0} (line : List ℕ) (o : Option A) → ◌≡◌ {A = Option (A × ℕ)} None (with_size line o) → o ≡ None
-no_size line (Some a) e = clash (cc)
+no_size line (Some a) e = cc
 no_size line None e = refl
 
 pub size_is : {A : Type 0} (line : List ℕ) (o : Option A) {a : A} {n : ℕ} → ◌≡◌ {A = Option (A × ℕ)} (Some (a, n)) (with_size line o) → (o ≡ Some a) × (n ≡ size_of line)
 size_is line (Some b) e = let p = some_pair_parts _ _ _ _ e in (ap Some (sym p.0), p.1)
-size_is line None e = clash (cc)
+size_is line None e = cc
 
 -- The same, of a value that a pattern names.
 pub size_is_at : {A : Type 0} (line : List ℕ) (o : Option A) {a b : A} {n : ℕ} → ◌≡◌ {A = Option (A × ℕ)} (Some (a, n)) (with_size line o) → a ≡ b → (o ≡ Some b) × (n ≡ size_of line)

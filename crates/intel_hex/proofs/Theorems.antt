@@ -20,7 +20,6 @@ use Rattle.intel_hex.specs.Returns.{with_returns}
 use Rattle.intel_hex.specs.declared.exporting.ExportRefusal.{ExportRefusal}
 use Rattle.intel_hex.specs.declared.importing.ImportRefusal.{ImportRefusal}
 use Rattle.intel_hex.specs.declared.importing.ImportRefusal.TheVariants.{MainTooLong, BadText}
-use Rattle.intel_hex.proofs.Bytes.{clash}
 use Rattle.intel_hex.proofs.FirstBad.{BadAt, bad_at_is_bad, bad_is_bad_at}
 use Rattle.intel_hex.proofs.Lengths.{exported_length_is}
 use Rattle.intel_hex.proofs.Texts.{on_twelve, ended_twelve}
@@ -41,10 +40,10 @@ export_accepted {main} {out} {after} {n} e =
         → (take n after ≡ exported main) × (length main ≤ 1048576)
     go true t p q a o =
         let b = rw p at a in
-        clash (cc b)
+        cc
     go false true p q a o =
         let b = rw (p, q) at a in
-        clash (cc b)
+        cc
     go false false p q a o =
         let b : Ok n ≡ Ok (exported_length (length main)) = rw (p, q) at a in
         let m : n ≡ exported_length (length main) = cc in
@@ -107,9 +106,9 @@ unfolding import_answer
 accepted_starts_again {main} {text} {after} {count} i = go (ltb 1048576 (length main)) (text_of (length main) 0 text) i.answer_is
   where
     go : (long : Bool) (x : Text) → Ok count ≡ cond long (Err MainTooLong) (answer (verdict x)) → count ≡ 0
-    go true x e = clash (cc)
+    go true x e = cc
     go false (Ok words) e = cc
-    go false (Err n) e = clash (cc)
+    go false (Err n) e = cc
 
 -- Whether a word is named.
 abbrev pub names : ℕ → List (ℕ × ℕ) → Bool
@@ -117,7 +116,7 @@ names p [] = false
 names p (w ∷ words) = eqb p w.0 || names p words
 
 or_false : (a b : Bool) → (a || b) ≡ false → (a ≡ false) × (b ≡ false)
-or_false true b e = clash (cc)
+or_false true b e = cc
 or_false false b e = (refl, e)
 
 pub not_named_stays : (words : List (ℕ × ℕ)) (main : List ℕ) (p : ℕ) → names p words ≡ false → get_or (stored words main) p 0 ≡ get_or main p 0
@@ -155,13 +154,13 @@ bad_in (suc k) room base t n h e = go (turn_of room base (line_of t)) refl e (λ
     go (Some Ended) q f rest = ended (eqb (length (drop (size_of t) t)) 0) refl (rw q at f)
       where
         ended : (b : Bool) → eqb (length (drop (size_of t) t)) 0 ≡ b → ◌≡◌ {A = Text} (cond b (Ok []) (Err 2)) (Err n) → 12 * n ≤ length t + 12
-        ended true g f = clash (cc)
+        ended true g f = cc
         ended false g f =
             omega (arith, two f, ended_twelve room base t q, length-drop (size_of t) t)
     go (Some (On b)) q f rest = on (text_in k room b (drop (size_of t) t)) refl (rw q at f)
       where
         on : (x : Text) → text_in k room b (drop (size_of t) t) ≡ x → after_line (named base (line_of t) t) x ≡ Err n → 12 * n ≤ length t + 12
-        on (Ok ws) g f = clash (cc)
+        on (Ok ws) g f = cc
         on (Err m) g f =
             let s : suc m ≡ n = cc in
             let w = on_twelve room base t q in
@@ -182,8 +181,8 @@ unfolding import_answer
 refused_at_first_bad_line {main} {text} {n = n} i e = go (ltb 1048576 (length main)) (text_of (length main) 0 text) refl (sym i.answer_is ∙ e)
   where
     go : (long : Bool) (x : Text) → text_of (length main) 0 text ≡ x → cond long (Err MainTooLong) (answer (verdict x)) ≡ Err (BadText n) → BadAt (length main) 0 text n
-    go true x p q = clash (cc)
-    go false (Ok words) p q = clash (cc)
+    go true x p q = cc
+    go false (Ok words) p q = cc
     go false (Err m) p q =
         let same : ◌≡◌ {A = Text} (Err m) (Err n) = cc in
         bad_is_bad_at (length main) 0 text n (p ∙ same)

@@ -89,7 +89,8 @@ fn row(main: &[u32], i: usize) -> Text<60>
     lines
 }
 
-// The whole export, into an output that has room for it.
+// The whole export, into an output that has room for it. The output is lent, and 11 MB where main is full, so its texts are put one after the other,
+// each at the place after the one before.
 fn put_all(out: &mut [u8], main: &[u32]) -> usize
     requires { (length (exported main.now) ≤ length out.old) × (length main.now ≤ 1048576) }
     ensures { Placed 0 (exported main.now) out.old result out.new }

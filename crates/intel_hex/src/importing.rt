@@ -63,7 +63,8 @@ fn first_turn(text: &[u8], room: usize, base: usize) -> Option<(Turn, usize)>
     Some((turn_at(room, base, line)?, size))
 }
 
-// The answer for a main of `room` words.
+// The answer for a main of `room` words. The lines are counted beside the rest of the text: only what a line says tells where the next begins, so no
+// range counts them.
 fn judge(text: &[u8], room: usize) -> Result<(), BadLine>
     ensures { result ≡ verdict (text_of room 0 text.now) }
 {
@@ -125,7 +126,7 @@ fn store_line(main: &mut [u32], base: usize, line: Line, text: &[u8])
     }
 }
 
-// The words of a text that is not bad go to main: its lines are well-formed, so they are not summed again, as `judge` sums them.
+// The words of a text that is not bad go to main. It walks the lines as `judge` does, but sums none again: one walk with a closure would sum each twice.
 fn store(main: &mut [u32], text: &[u8])
     requires { verdict (text_of (length main.old) 0 text.now) ≡ Ok tt }
     ensures { main.new ≡ stored (words_in (text_of (length main.old) 0 text.now)) main.old }
