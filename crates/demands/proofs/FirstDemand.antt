@@ -3,7 +3,7 @@
 -- (That every call takes any input and ends is the checker's: no public call has a `requires`.)
 -- Assumes nothing.
 use mathlib.Core.Path.{◌≡◌, refl, sym, ap, ◌∙◌, subst}
-use mathlib.Core.Bool.{Bool, true, false, cond, ◌&&◌, ◌||◌, true≢false, false≢true}
+use mathlib.Core.Bool.{Bool, true, false, cond, ◌&&◌, ◌||◌, false≢true}
 use mathlib.Core.Logic.{◌↔◌}
 use mathlib.Core.List.{List, []}
 use Prim.{tt}
@@ -104,19 +104,16 @@ right f =
     tested f NothingInUse _ c (λ c.
     last_tested f BrokenRecord (omega arith) c)))))))
 
-both : (t : Bool) → t ≡ true → t ≡ false → ⊥
-both t h k = true≢false (sym h ∙ k)
-
 refused_is : (f : Refusal → Bool) (a : Answer) (r : Refusal) → Right f a → f r ≡ true → Clear f (number r) → a ≡ Err r
-refused_is f (Ok u) r k h c = absurd (both (f r) h (k r))
+refused_is f (Ok u) r k h c = cc (k r)
 refused_is f (Err q) r k h c =
     by_le (number r) (number q)
-    (λ l. by_le (number q) (number r) (λ g. ap (λ (x : Refusal). Err x) (distinct q r (omega arith))) (λ g. absurd (both (f r) h (k.1 r g))))
-    (λ l. absurd (both (f q) k.0 (c q l)))
+    (λ l. by_le (number q) (number r) (λ g. ap (λ (x : Refusal). Err x) (distinct q r (omega arith))) (λ g. cc (k.1 r g)))
+    (λ l. cc (c q l))
 
 done_is : (f : Refusal → Bool) (a : Answer) → Right f a → ((r : Refusal) → f r ≡ false) → a ≡ Ok tt
 done_is f (Ok u) k h = refl
-done_is f (Err q) k h = absurd (both (f q) k.0 (h q))
+done_is f (Err q) k h = cc (h q)
 
 -- ---- per call
 

@@ -31,7 +31,6 @@ use Rattle.trail.proofs.NewestReadsBack.{newest_fitted_added, record_injective, 
 use Rattle.viper.specs.declared.Refusal.{Refusal}
 use Rattle.viper.specs.declared.Refusal.TheVariants.{PTooLarge, StoreTooLong, CountTooLarge, Stopped, Unfitted, TrailFull, NothingInUse, BrokenRecord}
 use Rattle.viper.specs.declared.After.{After}
-use Rattle.viper.specs.Refusals.{Answer}
 use Rattle.viper.specs.Told.{bench, told}
 use Rattle.step.specs.Phases.{lacks, step_unfitted}
 use Rattle.viper.specs.Operations.{Bench, Operation, step, reset, force, set_word, operate, next, kind_of, writes_at, record_for, unfitted, applies, Outcome, outcome}
@@ -238,9 +237,6 @@ stopped_keeps b l h =
 
 -- ---- THE STEP
 
-refused_not_done : (q : Refusal) → ◌≡◌ {A = Answer} (Err q) (Ok tt) → ⊥
-refused_not_done q e = let z : ◌≡◌ {A = ℕ} 0 1 = cc in absurd (omega arith)
-
 -- P, both stores and the count in use are lawful, STOP is clear, each word that the step touches is fitted, and the trail has room for its record.
 pub record CanStep (b : Bench) : Type 0 where
   pub lawful : LawfulBench b
@@ -291,4 +287,4 @@ step_call_is_next m main ports trail used (Ok a) main' ports' trail' k h =
     )
 step_call_is_next m main ports trail used (Err q) main' ports' trail' k h =
     let e = ap (λ (o : Outcome). o.answered) (h ∙ step_is_next (bench m main ports trail used) k) in
-    absurd (refused_not_done q e)
+    cc

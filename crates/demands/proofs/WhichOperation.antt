@@ -40,16 +40,14 @@ module _ (main ports : ℕ) (trail : List ℕ) (q : Place) where
       go zero r = walking.none_of main ports trail q deep
       go (suc n) r =
           let w = (division.parted true trail (suc n) [] (omega arith) r).whole in
-          let z : ◌≡◌ {A = ℕ} 0 1 = cc in
-          absurd (omega arith)
+          cc
   decoded (e ∷ es) deep used p f = go used p (decoded es (deep + 1))
     where
       go : (u : ℕ) → records_of true trail u ≡ some (e ∷ es) → ((n : ℕ) → records_of true trail n ≡ some es → FitRow main ports es → from_end main ports trail q (deep + 1) n ≡ pick q (deep + 1) es)
           → from_end main ports trail q deep u ≡ pick q deep (e ∷ es)
       go zero r ih =
           let w : ◌≡◌ {A = Option (List OldValues)} (some []) (some (e ∷ es)) = sym (division.none_of true trail) ∙ r in
-          let z : ◌≡◌ {A = ℕ} 0 1 = cc in
-          absurd (omega arith)
+          cc
       go (suc n) r ih =
           let w = division.parted true trail (suc n) (e ∷ es) (omega arith) r in
           let whole = w.whole in
