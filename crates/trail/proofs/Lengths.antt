@@ -3,7 +3,7 @@
 use Prim.Native.Nat.{ℕ, zero, suc, ◌+◌, ◌*◌, ◌/◌, ◌^◌, ◌<◌, ◌≤◌}
 use mathlib.Core.Path.{◌≡◌, refl, ap}
 use mathlib.Core.Bool.{Bool, true, false}
-use mathlib.Core.List.{[], ◌∷◌}
+use mathlib.Core.List.{[], ◌∷◌, ◌++◌}
 use native.Mathlib.Omega.{arith}
 use lib.Dec.{ltb}
 use lib.ListN.{length, length-append}
@@ -15,6 +15,7 @@ use Rattle.trail.specs.declared.OldValues.{OldValues}
 use Rattle.trail.specs.declared.Kind.{Kind}
 use Rattle.trail.specs.Numbers.{groups, bytes_if, GoodIf}
 use Rattle.trail.specs.Records.{Word, marked, body, body_in, record_bytes, kind_number, Good, GoodIn, differs, word_changed, old_values, record_in}
+use Rattle.trail.specs.OneChange.{closed, one_value}
 use Rattle.trail.proofs.NumbersReadBack.{cap, groups_one, groups_more}
 use Rattle.trail.proofs.Marks.{bit, marks, Sound, old_values_good}
 
@@ -33,6 +34,9 @@ groups_few (suc k) n h = go (ltb n 128) refl (groups_few k (n / 128))
     go : (t : Bool) → ltb n 128 ≡ t → (n / 128 < cap k → length (groups (n / 128)) ≤ k + 1) → length (groups n) ≤ suc k + 1
     go true e ih = rw (groups_one n (ltb-true n 128 e)) (omega arith)
     go false e ih = rw (groups_more n (ltb-false n 128 e)) (omega (arith, ltb-false n 128 e, ih (omega (arith, ltb-false n 128 e))))
+
+pub same_length : {m n : ℕ} → m ≡ n → length (groups m) ≡ length (groups n)
+same_length e = ap (λ (k : ℕ). length (groups k)) e
 
 -- ---- the numbers of a record
 
@@ -109,16 +113,37 @@ pub record_length : {places : ℕ} {o : OldValues} → places ≤ 2 ^ 21 → Goo
 unfolding record_in
 record_length {places} {o} h g = simp length-append (omega (arith, sizes true h g))
 
--- ---- the numbers of a step's record
+-- ---- the record of one value: the marks, at most three bytes each for P and a word's place, five for the value, and L
 
-pub p_size : (p : ℕ) → p < 2 ^ 20 → length (groups p) ≤ 3
-p_size p h = groups_few 2 p (omega arith)
+if_place : (t : Bool) (n : ℕ) → n < 2 ^ 21 → length (bytes_if t n) ≤ 3
+if_place true n h = groups_few 2 n (omega arith)
+if_place false n h = omega arith
 
-pub place_size : (n : ℕ) → n < 2 ^ 21 → length (groups n) ≤ 3
-place_size n h = groups_few 2 n (omega arith)
+pub record ValueSizes (marks p place v : ℕ) : Type 0 where
+  pub of_p : length (groups p) ≤ 3
+  pub of_place : length (bytes_if (marked 8 marks) place) ≤ 3
+  pub of_value : length (groups v) ≤ 5
 
-pub word_size : (v : ℕ) → v < 2 ^ 32 → length (groups v) ≤ 5
-word_size v h = groups_few 4 v (omega arith)
+pub p_size : {p : ℕ} → p < 2 ^ 20 → length (groups p) ≤ 3
+p_size {p} h = groups_few 2 p (omega arith)
+
+pub p_fits : (marks : ℕ) {p : ℕ} → p < 2 ^ 20 → length (closed (1 ∷ (marks ∷ groups p))) ≤ 28
+p_fits marks {p} h = omega (arith, p_size h, length-append (groups p) (length (1 ∷ (marks ∷ groups p)) ∷ []))
+
+pub value_sizes : (marks : ℕ) {p place v : ℕ} → p < 2 ^ 20 → place < 2 ^ 21 → v < 2 ^ 32 → ValueSizes marks p place v
+value_sizes marks {p} {place} {v} hp hq hv =
+    record {
+      of_p = p_size hp;
+      of_place = if_place (marked 8 marks) place hq;
+      of_value = groups_few 4 v (omega arith);
+    }
+
+pub value_fits : {marks p place v : ℕ} → ValueSizes marks p place v → length (one_value marks p place v) ≤ 28
+unfolding one_value
+value_fits {marks} {p} {place} {v} s =
+    let q = bytes_if (marked 8 marks) place in
+    let r = groups p ++ (q ++ groups v) in
+    omega (arith, s, length-append r (length (1 ∷ (marks ∷ r)) ∷ []), length-append (groups p) (q ++ groups v), length-append q (groups v))
 
 -- ---- the record of an operation
 

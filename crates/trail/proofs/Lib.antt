@@ -7,6 +7,6 @@ pub mod Lengths
 pub mod RecordRestores
 pub mod Examples
 -- What the code's loops and ways out rest on.
-pub mod Pushing
+pub mod Putting
 pub mod Adding
 pub mod ShortRecords

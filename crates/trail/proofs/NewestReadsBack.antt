@@ -121,9 +121,14 @@ newest_in_use_in kinds {places} {o} trail used front b h e g =
 
 pub newest_in_use : {o : OldValues} (main ports : ℕ) (trail : List ℕ) (used : ℕ) (front : List ℕ) → used ≤ length trail → take used trail ≡ front ++ record_bytes o → Good (2 ^ 21) o → Fits main ports o
     → newest_fitted main ports trail used ≡ read_back o (length front)
-unfolding newest_fitted
 newest_in_use {o} main ports trail used front h e g f =
-    ap (only_fitted main ports) (newest_in_use_in true trail used front (omega arith) h e g) ∙ fitted_kept main ports o (length front) f
+    let t : front ++ (record_bytes o ++ drop used trail) ≡ trail =
+    sym (append_assoc front (record_bytes o) (drop used trail)) ∙ rw (← e) (take-append-drop used trail)
+    in
+    let n : length front + length (record_bytes o) ≡ used =
+    sym (length-append front (record_bytes o)) ∙ rw (← e) (length-take-le used trail h)
+    in
+    rw (t, n) at (newest_fitted_added main ports front (drop used trail) g f)
 
 -- Two records of the same bytes hold the same old values.
 pub record_injective : {places : ℕ} {o q : OldValues} → places ≤ 2 ^ 21 → Good places o → Good places q → record_bytes o ≡ record_bytes q → o ≡ q
@@ -143,7 +148,7 @@ pub record Found (kinds : Bool) (places : ℕ) (trail : List ℕ) (end L : ℕ) 
   pub read : read_in_form kinds places (slice (end - L) end trail) ≡ some o
 
 left_some : (m : ℕ) (r : Option OldValues) (o : OldValues) (n : ℕ) → leaving m r ≡ read_back o n → (n ≡ m) × (r ≡ some o)
-left_some m none o n p = cc
+left_some m none o n p = let z : ◌≡◌ {A = ℕ} 0 1 = cc in absurd (omega arith)
 left_some m (some q) o n p =
     let e = read_same p in
     (sym e.1, ap some e.0)
@@ -157,9 +162,9 @@ found kinds places trail end L o n p = go (ltb L (2 + BV kinds)) (ltb (27 + BV k
         → ltb end L ≡ c
         → cond a broken_record (cond b broken_record (cond c broken_record (leaving (end - L) (read_in_form kinds places (slice (end - L) end trail))))) ≡ read_back o n
         → Found kinds places trail end L o n
-    go true b c e f g q = cc
-    go false true c e f g q = cc
-    go false false true e f g q = cc
+    go true b c e f g q = let z : ◌≡◌ {A = ℕ} 0 1 = cc in absurd (omega arith)
+    go false true c e f g q = let z : ◌≡◌ {A = ℕ} 0 1 = cc in absurd (omega arith)
+    go false false true e f g q = let z : ◌≡◌ {A = ℕ} 0 1 = cc in absurd (omega arith)
     go false false false e f g q =
         let s = left_some (end - L) (read_in_form kinds places (slice (end - L) end trail)) o n q in
         record { low = ltb-false L (2 + BV kinds) e; high = ltb-false (27 + BV kinds) L f; room = ltb-false end L g; left = s.0; read = s.1 }
@@ -201,7 +206,7 @@ pub newest_stands : {places : ℕ} {trail : List ℕ} {used : ℕ} {o : OldValue
 newest_stands h l p = newest_stands_in true h l p
 
 fitted_only : (main ports : ℕ) (r : Result Newest Broken) (o : OldValues) (n : ℕ) → only_fitted main ports r ≡ read_back o n → (r ≡ read_back o n) × Fits main ports o
-fitted_only main ports (Err e) o n p = cc
+fitted_only main ports (Err e) o n p = let z : ◌≡◌ {A = ℕ} 0 1 = cc in absurd (omega arith)
 fitted_only main ports (Ok w) o n p = go (marked 8 w.values.marks) (fits main ports (where_of_number w.values.place)) refl refl p
   where
     same : Ok w ≡ read_back o n → w.values ≡ o
@@ -213,7 +218,7 @@ fitted_only main ports (Ok w) o n p = go (marked 8 w.values.marks) (fits main po
         → cond t (cond u (Ok w) broken_record) (Ok w) ≡ read_back o n
         → (Ok w ≡ read_back o n) × Fits main ports o
     go true true e f r = (r, λ _. rw (← same r) f)
-    go true false e f r = cc
+    go true false e f r = let z : ◌≡◌ {A = ℕ} 0 1 = cc in absurd (omega arith)
     go false u e f r =
         let k : marked 8 o.marks ≡ false = rw (← same r) e in
         (r, λ j. let z : ◌≡◌ {A = Bool} false true = sym k ∙ j in let y : ◌≡◌ {A = ℕ} 0 1 = cc in absurd (omega arith))

@@ -74,7 +74,7 @@ groups_injective m n e =
 
 -- What reads as n and a rest is the bytes of n, and that rest.
 pub read_only : (k : ℕ) (s : List ℕ) (n : ℕ) (rest : List ℕ) → read_in k s ≡ got n rest → (s ≡ groups n ++ rest) × (n < cap k)
-read_only zero [] n rest p = cc
+read_only zero [] n rest p = let z : ◌≡◌ {A = ℕ} 0 1 = cc in absurd (omega arith)
 read_only zero (b ∷ s) n rest p = go (ltb b 128) refl
   where
     go : (t : Bool) → ltb b 128 ≡ t → (b ∷ s ≡ groups n ++ rest) × (n < 128)
@@ -85,8 +85,9 @@ read_only zero (b ∷ s) n rest p = go (ltb b 128) refl
         (rw (groups_one n (omega arith)) (cc), omega arith)
     go false e =
         let q : broken ≡ got n rest = rw e at p in
-        cc
-read_only (suc k) [] n rest p = cc
+        let z : ◌≡◌ {A = ℕ} 0 1 = cc in
+        absurd (omega arith)
+read_only (suc k) [] n rest p = let z : ◌≡◌ {A = ℕ} 0 1 = cc in absurd (omega arith)
 read_only (suc k) (b ∷ s) n rest p = go (ltb b 128) (ltb b 256) refl refl (read_only k s)
   where
     deep : (r : Read)
@@ -96,8 +97,8 @@ read_only (suc k) (b ∷ s) n rest p = go (ltb b 128) (ltb b 256) refl refl (rea
         → over (b - 128) r ≡ got n rest
         → ((m : ℕ) (t : List ℕ) → read_in k s ≡ got m t → (s ≡ groups m ++ t) × (m < cap k))
         → (b ∷ s ≡ groups n ++ rest) × (n < 128 * cap k)
-    deep broken e l h q ih = cc
-    deep (got zero t) e l h q ih = cc
+    deep broken e l h q ih = let z : ◌≡◌ {A = ℕ} 0 1 = cc in absurd (omega arith)
+    deep (got zero t) e l h q ih = let z : ◌≡◌ {A = ℕ} 0 1 = cc in absurd (omega arith)
     deep (got (suc m) t) e l h q ih =
         let w = ih (suc m) t e in
         let q' : got (b - 128 + 128 * suc m) t ≡ got n rest = rw (ne_eqb (suc m) 0 (omega arith)) at q in
@@ -122,7 +123,8 @@ read_only (suc k) (b ∷ s) n rest p = go (ltb b 128) (ltb b 256) refl refl (rea
         deep (read_in k s) refl (ltb-false b 128 e) (ltb-true b 256 f) q ih
     go false false e f ih =
         let q : broken ≡ got n rest = rw (e, f) at p in
-        cc
+        let z : ◌≡◌ {A = ℕ} 0 1 = cc in
+        absurd (omega arith)
 
 -- ---- the same below a bound, and for a number that may be marked
 
@@ -138,10 +140,10 @@ below_only bound s n rest p = go (read_in 4 s) refl p
         let w : read_in 4 s ≡ got n rest = cc in
         let l = ltb-true m bound f in
         ((read_only 4 s n rest w).0, omega arith)
-    at m t false e f q = cc
+    at m t false e f q = let z : ◌≡◌ {A = ℕ} 0 1 = cc in absurd (omega arith)
 
     go : (r : Read) → read_in 4 s ≡ r → below bound r ≡ got n rest → (s ≡ groups n ++ rest) × (n < bound)
-    go broken e q = cc
+    go broken e q = let z : ◌≡◌ {A = ℕ} 0 1 = cc in absurd (omega arith)
     go (got m t) e q = at m t (ltb m bound) e refl q
 
 pub read_bytes_if : (t : Bool) (bound n : ℕ) (rest : List ℕ) → bound ≤ cap 4 → GoodIf t bound n → read_if t bound (bytes_if t n ++ rest) ≡ got n rest

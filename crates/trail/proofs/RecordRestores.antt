@@ -73,7 +73,7 @@ record Told (old new : Mem) (w : Word) : Type 0 where
   fitting : word_changed w ≡ true → fits (length new.main) (length new.ports) (where_of_number (word_place w)) ≡ true
 
 told_kept : (old new : Mem) → new ≡ old → Told old new None
-told_kept old new e = record { back = e; address = tt; value = λ n h z. z; fitting = λ h. cc }
+told_kept old new e = record { back = e; address = tt; value = λ n h z. z; fitting = λ h. let z : ◌≡◌ {A = ℕ} 0 1 = cc in absurd (omega arith) }
 
 addressed : (q : Where) (v : ℕ) → q.1 < 2 ^ 20 → Addressed (Some (record { place = place_of q; value = v }))
 addressed (true, a) v h = h

@@ -70,12 +70,12 @@ found : {G : Type 0} (t : Bool) (bound : ℕ) (s : List ℕ) (f : ℕ → List �
 found {G} t bound s f o p then = go (read_if t bound s) refl p
   where
     go : (r : Read) → read_if t bound s ≡ r → and_then r f ≡ some o → G
-    go broken e q = cc
+    go broken e q = let z : ◌≡◌ {A = ℕ} 0 1 = cc in absurd (omega arith)
     go (got n rest) e q = let w = read_if_only t bound s n rest e in then n rest w.0 w.1 q
 
 ended : (s : List ℕ) (o q : OldValues) → at_end s o ≡ some q → (s ≡ []) × (o ≡ q)
 ended [] o q p = (refl, cc)
-ended (b ∷ s) o q p = cc
+ended (b ∷ s) o q p = let z : ◌≡◌ {A = ℕ} 0 1 = cc in absurd (omega arith)
 
 pub read_only_in : (kinds : Bool) (places : ℕ) (s : List ℕ) (o : OldValues) → read_in_form kinds places s ≡ some o → (s ≡ body_in kinds o) × GoodIn kinds places o
 unfolding read_in_form

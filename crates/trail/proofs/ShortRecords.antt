@@ -3,7 +3,7 @@
 use Prim.Native.Nat.{ℕ, ◌+◌, ◌*◌, ◌/◌, ◌%◌, ◌^◌, ◌<◌, ◌≤◌}
 use mathlib.Core.Path.{◌≡◌}
 use mathlib.Core.Bool.{Bool, true, false}
-use mathlib.Core.List.{List, [], ◌∷◌, ◌++◌, append-nil, append_assoc}
+use mathlib.Core.List.{List, [], ◌∷◌, ◌++◌, append-nil}
 use native.Mathlib.Omega.{arith}
 use lib.Dec.{eqb}
 use Rattle.std.specs.Prelude.{Some, None, Result}
@@ -12,7 +12,7 @@ use Rattle.machine.specs.declared.Place.{Place}
 use Rattle.trail.specs.declared.TrailFull.{TrailFull}
 use Rattle.trail.specs.Numbers.{groups}
 use Rattle.trail.specs.Records.{added, record_bytes, marks_by, place_number, record_in}
-use Rattle.trail.specs.OneChange.{closed, registers_kept, register_changed, Register, is_a, is_x, is_y}
+use Rattle.trail.specs.OneChange.{closed, one_value, registers_kept, register_changed, Register, is_a, is_x, is_y}
 use Rattle.trail.proofs.NumbersReadBack.{groups_one, groups_more}
 use Rattle.trail.proofs.Marks.{bits}
 
@@ -38,6 +38,14 @@ pub groups_five : {n g₀ g₁ g₂ g₃ : ℕ} → 268435456 ≤ n → n < 2 ^ 
     → g₃ ≡ 128 + n / 128 / 128 / 128 % 128
     → groups n ≡ g₀ ∷ g₁ ∷ g₂ ∷ g₃ ∷ n / 128 / 128 / 128 / 128 ∷ []
 groups_five h l e₀ e₁ e₂ e₃ = groups_then (omega arith) e₀ (groups_four (omega arith) (omega arith) e₁ e₂ e₃)
+
+-- ---- one value and no place
+
+-- What was added, by the groups of P and of the value.
+pub adds_groups : (trail : List ℕ) (used m p v : ℕ) {q s : List ℕ} {r : Result ℕ TrailFull × List ℕ} → groups p ≡ q → groups v ≡ s
+    → r ≡ added trail used (closed (1 ∷ (m ∷ (q ++ s))))
+    → r ≡ added trail used (closed (1 ∷ (m ∷ (groups p ++ groups v))))
+adds_groups trail used m p v e f h = rw (e, f) h
 
 -- ---- no register and no word
 
@@ -78,17 +86,23 @@ changed_bytes is_y p b s old =
     let m = bits false false true false b s in
     rw (m.a, m.x, m.y, m.word, groups_one 1 (omega arith), groups_one (marks_by false false true false b s) (omega (arith, m.few)), append-nil (groups old))
 
--- The record of one register by the groups of P and of its old value.
-pub as_register : {w f : ℕ} {q : List ℕ} → Register w → (p : ℕ) (b s : Bool) (old : ℕ) → groups p ≡ q → f ≡ 16 * BV b + 32 * BV s
-    → closed (1 ∷ ((w + f) ∷ (q ++ groups old))) ≡ record_bytes (register_changed w p b s old)
-as_register r p b s old g e = rw (← g, register_marks r b s e, changed_bytes r p b s old)
+-- The record of one register by the groups of P and of its old value; and as a record with one value.
+pub register_closed : {w f : ℕ} → Register w → (p : ℕ) (b s : Bool) (old : ℕ) → f ≡ 16 * BV b + 32 * BV s
+    → closed (1 ∷ ((w + f) ∷ (groups p ++ groups old))) ≡ record_bytes (register_changed w p b s old)
+register_closed r p b s old e = rw (register_marks r b s e, changed_bytes r p b s old)
+
+pub as_register : {w f : ℕ} → Register w → (p : ℕ) (b s : Bool) (old : ℕ) → f ≡ 16 * BV b + 32 * BV s
+    → one_value (w + f) p 0 old ≡ record_bytes (register_changed w p b s old)
+unfolding one_value
+as_register {w} r p b s old e =
+    rw (register_marks r b s e, changed_bytes r p b s old, (bits (eqb w 1) (eqb w 2) (eqb w 4) false b s).word)
 
 -- ---- one word
 
 pub as_word : {f q : ℕ} (p : ℕ) (b s : Bool) (place : Place) (old : ℕ) → f ≡ 16 * BV b + 32 * BV s → q ≡ place_number place
-    → closed (((1 ∷ ((8 + f) ∷ groups p)) ++ groups q) ++ groups old) ≡ record_bytes (registers_kept p b s (Some (record { place = place; value = old })))
-unfolding record_in
+    → one_value (8 + f) p q old ≡ record_bytes (registers_kept p b s (Some (record { place = place; value = old })))
+unfolding one_value record_in
 as_word {f} p b s place old e g =
     let m = bits false false false true b s in
     let n : 8 + f ≡ marks_by false false false true b s = omega arith in
-    rw (n, g, append_assoc (groups p) (groups (place_number place)) (groups old), m.a, m.x, m.y, m.word, groups_one 1 (omega arith), groups_one (marks_by false false false true b s) (omega (arith, m.few)))
+    rw (n, g, m.a, m.x, m.y, m.word, groups_one 1 (omega arith), groups_one (marks_by false false false true b s) (omega (arith, m.few)))

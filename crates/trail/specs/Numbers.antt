@@ -1,7 +1,7 @@
 -- Document 01, "The trail": a number in groups of seven bits, low group first, top bit set on all but the last, in the fewest groups;
 -- and a number read from the head of bytes.
 -- Assumes nothing.
-use Rattle.std.specs.Prelude.{ℕ, zero, suc, ◌+◌, ◌-◌, ◌*◌, ◌/◌, ◌%◌, ◌<◌, ◌≡◌, Bool, true, false, cond, List, [], ◌∷◌, ltb, eqb}
+use Rattle.std.specs.Prelude.{ℕ, zero, suc, ◌+◌, ◌-◌, ◌*◌, ◌/◌, ◌%◌, ◌<◌, ◌≡◌, Bool, true, false, cond, List, [], ◌∷◌, ◌++◌, ltb, eqb, length, take}
 
 -- ---- the bytes of a number
 
@@ -56,3 +56,11 @@ read_if marked bound s = cond marked (read_below bound s) (got 0 s)
 abbrev pub GoodIf : Bool → ℕ → ℕ → Type 0
 GoodIf true bound n = n < bound
 GoodIf false bound n = n ≡ 0
+
+-- ---- what the code says of its bytes
+
+-- The bytes s were put at the place `at`, after those that stood before it, and `next` is the place after them.
+pub record Put (at : ℕ) (s old new : List ℕ) (next : ℕ) : Type 0 where
+  pub place : next ≡ at + length s
+  pub bytes : take next new ≡ take at old ++ s
+  pub size : length new ≡ length old

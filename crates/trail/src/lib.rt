@@ -3,8 +3,7 @@
 
 use machine::Place;
 
-mod bytes;
-mod numbers;
+pub mod numbers;
 pub mod places;
 pub mod records;
 

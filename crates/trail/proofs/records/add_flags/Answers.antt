@@ -12,7 +12,7 @@ returns-then-p-lt128 c =
     adds_kept a.trail.now a.used a.p a.b a.stop
     (omega (arith, c.flags-marks.ensures.0))
     (groups_one a.p c.if-p-lt128.true)
-    c.add_parts.ensures
+    c.add_short.ensures
 
 pub returns-then-p-lt16384 : goal.returns-then-p-lt16384
 returns-then-p-lt16384 c =
@@ -20,7 +20,7 @@ returns-then-p-lt16384 c =
     adds_kept a.trail.now a.used a.p a.b a.stop
     (omega (arith, c.flags-marks.ensures.0))
     (groups_two c.if-p-lt128.false c.if-p-lt16384.true c.group.ensures)
-    c.add_parts-then-p-lt16384.ensures
+    c.add_short-then-p-lt16384.ensures
 
 pub returns : goal.returns
 returns c =
@@ -28,4 +28,4 @@ returns c =
     adds_kept a.trail.now a.used a.p a.b a.stop
     (omega (arith, c.flags-marks.ensures.0))
     refl
-    (rw c.of_step.ensures at c.add_to.ensures)
+    c.add_marks_and_p.ensures

@@ -1,21 +1,23 @@
 -- `add_word` meets its contract: number by number.
 -- Assumes nothing.
+use Prim.Native.Nat.{◌^◌, ◌<◌}
 use mathlib.Core.Path.{ap, ◌∙◌}
-use Rattle.trail.specs.Records.{added}
 use native.Mathlib.Omega.{arith}
-use Rattle.trail.proofs.Lengths.{word_size}
-use Rattle.trail.proofs.Pushing.{number_few, step_few}
+use Rattle.std.specs.Prelude.{Some}
+use Rattle.trail.specs.Records.{added, place_number}
+use Rattle.trail.proofs.Marks.{good_place}
 use Rattle.trail.proofs.ShortRecords.{as_word}
 use Rattle.trail.proofs.records.add_word.Goals as goal
 
-pub push_number-requires-2 : goal.push_number-requires-2
-push_number-requires-2 c = omega (arith, number_few _ c.push_number.ensures (omega arith), step_few c.of_step-record.ensures c.requires.1, word_size c.args.value c.ranges.value.fits)
-
-pub add_to-requires : goal.add_to-requires
-add_to-requires c = omega (arith, number_few _ c.push_number-2.ensures c.ranges.value.fits, number_few _ c.push_number.ensures (omega arith), step_few c.of_step-record.ensures c.requires.1)
+pub add_value-requires : goal.add_value-requires
+add_value-requires c =
+    let a = c.args in
+    let k = c.flags.ensures in
+    let q : place_number a.place < 2 ^ 21 = good_place (Some (record { place = a.place; value = a.old })) c.requires.2 in
+    (omega arith, omega (arith, k), omega arith, omega (arith, c.place_number.ensures))
 
 pub returns : goal.returns
 returns c =
     let a = c.args in
-    (rw (c.push_number-2.ensures, c.push_number.ensures, c.of_step-record.ensures) at c.add_to.ensures)
-    ∙ ap (added _ _) (as_word a.p a.b a.stop a.place a.value c.flags.ensures.0 c.place_number.ensures)
+    c.add_value.ensures
+    ∙ ap (added _ _) (as_word a.p a.b a.stop a.place a.old c.flags.ensures.0 c.place_number.ensures)
