@@ -124,7 +124,7 @@ def point_2(sources):
 
 def point_3(sources):
     for place, name, parameters, contract, body in functions(sources):
-        for m in re.finditer(r"(?m)^\s*(while|loop)\b[^\n]*", body):
+        for m in re.finditer(r"(?m)^\s*(?:let \w+ = )?(while|loop)\b[^\n]*", body):
             yield "loop", f"{place}: {name}: {m.group(0).strip()}"
 
 

@@ -13,7 +13,7 @@ use lib.Seq.{drop-cons, take-suc, append_snoc, set_at, take_all, length-take-le}
 use borrow.Author.Tests.{lt-ltb, le-ltb}
 use Rattle.text.specs.Digits.{digit_value}
 use Rattle.counter.specs.Routine.{line_after, first_line, Routine, then_lines, routine_of, answer, Loads}
-use Rattle.counter.specs.declared.routine.BadLine.{BadLine}
+use Rattle.text.specs.declared.read.BadLine.{BadLine}
 
 module _ (text : List ℕ) (at k v : ℕ) (more : at < length text) where
   pub no_digit : 16 ≤ digit_value (get_or text at 0) → line_after (suc k) v (drop at text) ≡ None

@@ -3,7 +3,7 @@
 use Rattle.std.specs.Prelude.{ℕ, zero, suc, ◌+◌, ◌*◌, ◌≡◌, cond, List, [], ◌∷◌, ◌++◌, ltb, eqb, length, drop, Option, Some, None, Result, Ok, Err}
 use Prim.Native.Char.{code}
 use Rattle.text.specs.Digits.{digit_value}
-use Rattle.counter.specs.declared.routine.BadLine.{BadLine}
+use Rattle.text.specs.declared.read.BadLine.{BadLine}
 
 -- A line of which k digits and the line feed are still to come, after digits of value v.
 abbrev pub line_after : ℕ → ℕ → List ℕ → Option ℕ

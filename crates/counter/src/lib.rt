@@ -5,4 +5,5 @@ mod lines;
 mod routine;
 
 pub use lines::{back_line, bad_line, push_register, run_line};
-pub use routine::{BadLine, load, read_line};
+pub use routine::{load, read_line};
+pub use text::BadLine;

@@ -2,11 +2,7 @@
 ghost use Rattle.std.specs.Prelude.{◌≡◌, ◌≤◌, length, Ok};
 ghost use Rattle.counter.specs.Routine.{line_after, routine_of, answer, main_after, Loads};
 
-use text::digit_value;
-
-// The number of the first bad line, from 1.
-#[derive(Clone, Copy, Debug, PartialEq, Eq)]
-pub struct BadLine(pub usize);
+use text::{BadLine, digit_value};
 
 // The digits and the line feed of a line.
 const LINE: usize = 9;

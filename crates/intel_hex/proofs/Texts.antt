@@ -20,7 +20,7 @@ use Rattle.intel_hex.specs.declared.lines.Line.{Line}
 use Rattle.intel_hex.specs.declared.lines.Line.TheVariants.{Data, Upper, End}
 use Rattle.intel_hex.specs.declared.importing.Turn.{Turn}
 use Rattle.intel_hex.specs.declared.importing.Turn.TheVariants.{On, Ended}
-use Rattle.intel_hex.specs.declared.importing.BadLine.{BadLine}
+use Rattle.text.specs.declared.read.BadLine.{BadLine}
 use Rattle.intel_hex.proofs.Bytes.{each_byte, bytes_after, bytes_before, byte_within, ending_within, summed_none}
 
 -- Of words in a row each is four bytes.

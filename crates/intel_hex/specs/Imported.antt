@@ -7,7 +7,7 @@ use Rattle.intel_hex.specs.declared.lines.Line.{Line}
 use Rattle.intel_hex.specs.declared.lines.Line.TheVariants.{Data, Upper, End}
 use Rattle.intel_hex.specs.declared.importing.Turn.{Turn}
 use Rattle.intel_hex.specs.declared.importing.Turn.TheVariants.{On, Ended}
-use Rattle.intel_hex.specs.declared.importing.BadLine.{BadLine}
+use Rattle.text.specs.declared.read.BadLine.{BadLine}
 use Rattle.intel_hex.specs.declared.importing.ImportRefusal.{ImportRefusal}
 use Rattle.intel_hex.specs.declared.importing.ImportRefusal.TheVariants.{MainTooLong, BadText}
 

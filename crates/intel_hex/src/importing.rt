@@ -5,6 +5,7 @@ ghost use Rattle.intel_hex.specs.Imported.{word_of, words_from, named, has_words
 
 use crate::MOST;
 use crate::lines::{Line, Span, byte_at, layout_at, line_at};
+use text::BadLine;
 
 // How a text goes on after a good line: with the start of the 64 KiB that count from there, or at its end.
 #[derive(Clone, Copy, Debug, PartialEq, Eq)]
@@ -12,10 +13,6 @@ pub enum Turn {
     On(usize),
     Ended,
 }
-
-// The first bad line of a text, from 1.
-#[derive(Clone, Copy, Debug, PartialEq, Eq)]
-pub struct BadLine(pub usize);
 
 // Why an import is refused: main is too long, or the text is bad, first at this line from 1.
 #[derive(Clone, Copy, Debug, PartialEq, Eq)]

@@ -6,5 +6,5 @@ mod read;
 mod texts;
 
 pub use put::put_text;
-pub use read::digit_value;
+pub use read::{BadLine, digit_value};
 pub use texts::Text;

@@ -1,6 +1,10 @@
-// Hex digits read.
+// Hex digits read, and the first line of a text that cannot be read.
 ghost use Rattle.std.specs.Prelude.{◌≡◌, ◌<◌, IfSome, IfNone};
 ghost use Rattle.text.specs.Digits.{digit_value};
+
+// The first bad line of a text, from 1.
+#[derive(Clone, Copy, Debug, PartialEq, Eq)]
+pub struct BadLine(pub usize);
 
 // The value of a hex digit, if the byte is one.
 #[tactic(auto, unfolding(crate::specs::Digits::digit_value))]
