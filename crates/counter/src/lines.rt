@@ -1,4 +1,5 @@
-// Printing (document 01, "The counter program"): the lines of bench.
+// Printing (document 01, "The counter program"): the lines of bench. Each is a text that is proved byte for byte, and no `Display`, whose `fmt` could promise
+// no bytes to whoever prints by it.
 ghost use Rattle.std.specs.Prelude.{◌≡◌, ◌+◌, ◌≤◌, ◌++◌, length};
 ghost use Rattle.text.specs.Digits.{hex};
 ghost use Rattle.counter.specs.Lines.{flag, name, registers, in_use, run_line, back_line, bad_line};

@@ -8,7 +8,8 @@ use crate::line::line_of;
 use instruction::ClassTable;
 use text::{Text, put_text};
 
-// Why a listing was refused, by the paper's numbers.
+// Why a listing was refused, by the paper's numbers. (An export's refusals are as many and have the same numbers, and are a type of their own: each call
+// says which come of it, and no other does.)
 #[derive(Clone, Copy, Debug, PartialEq, Eq)]
 pub enum ListRefusal {
     StoreTooLong = 2,

@@ -6,7 +6,7 @@ ghost use Rattle.moving.specs.Moving.{moved_length, moved_record, PutBefore, Mov
 use crate::judging::kind_bytes;
 
 // The record whose L bytes stand from `start` on, in the form that is asked for, right before the output's place `to`: in the new form the kind 0 and
-// those bytes, in the old one the bytes after the kind; and their count. L is that of the form in which the record is read.
+// those bytes, in the old one the bytes after the kind; and their count. The output is lent, and answers where the record begins. L is that of the form in which the record is read.
 fn put_record(new: bool, s: &[u8], start: usize, l: usize, out: &mut [u8], to: usize) -> usize
     requires { (start + l ≤ length s.now) × (2 + BV (not new) ≤ l) × (l ≤ 27 + BV (not new)) × (moved_length new (l + 1) 1 ≤ to) × (to ≤ length out.old) }
     ensures { PutBefore to (moved_record new s.now start l) out.old out.new result }

@@ -1,4 +1,5 @@
-// Texts, for C: the numbers answered for a listing (document 02, W1) and for Intel HEX (W4).
+// Texts, for C: the numbers answered for a listing (document 02, W1) and for Intel HEX (W4). They differ in which half holds what, as include/viper.h
+// says, so each has its function; and they are functions and no `From`, since their types are std's.
 ghost use Rattle.std.specs.Prelude.{◌<◌, ◌^◌, ◌≡◌};
 ghost use Rattle.intel_hex.specs.Imported.{used_after};
 ghost use Rattle.surface.specs.Texts.{list_number, import_number, export_number, line_number, Countable};

@@ -6,7 +6,7 @@ use machine::{MainAddress, Place, PortNumber};
 use moving::MoveRefusal;
 use seeking::{Hit, SeekRefusal};
 
-// Store 0 is main, any other the ports.
+// Store 0 is main, any other the ports. (A step tells the store by a word's class, and a record by the place's number: three numbers of three meanings.)
 pub fn place_of(store: u32, address: u32) -> Place
     ensures { result ≡ place_numbered store address }
 {

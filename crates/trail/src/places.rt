@@ -6,7 +6,7 @@ ghost use Rattle.trail.specs.Records.{place_number, where_of_number};
 use crate::FIRST_PORT;
 use machine::{MainAddress, Place, PortNumber};
 
-// The number of a place: its address, plus 1,048,576 for ports.
+// The number of a place: its address, plus 1,048,576 for ports. (No `From`: it has a `requires`.)
 pub fn place_number(place: Place) -> u32
     requires { (where_of place).1 < 2 ^ 20 }
     ensures { result ≡ place_number place }

@@ -1,4 +1,7 @@
 // A record of old values, made whole and then added to the trail (document 01, "The trail").
+//
+// The trail and the count of its bytes in use come apart, as C lends them. A struct of both was tried: it holds a `&mut`, so each contract has to say that
+// it still holds the same reference, and of bytes and count apart what the pair says at once: three clauses more for the one fact that it spares.
 ghost use Rattle.std.specs.Prelude.{◌≡◌, cond, ◌+◌, ◌*◌, ◌^◌, ◌<◌, ◌≤◌, ◌∷◌, ◌++◌, length, take, Some, None};
 ghost use Rattle.report.specs.AnnexA.{BV};
 ghost use Rattle.machine.specs.Held.{where_of};

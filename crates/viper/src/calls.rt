@@ -43,7 +43,7 @@ pub(crate) fn judge(
     Ok(())
 }
 
-// The machine whose A, X and Y stand first among the sources.
+// The machine whose A, X and Y stand first among the sources, put together where a run ends.
 fn machine_held(sources: &[u32; 4], p: u32, b: bool, stop: bool) -> Machine
     ensures { result ≡ held sources.now p b stop }
 {

@@ -1,6 +1,6 @@
 // The calls for C, as include/viper.h declares them. Each reads the machine from regs, makes the call of the crate viper, and hands its
 // outcome back; taking back puts the registers back in regs itself. None has a `requires`: what C lends is refused
-// or obeyed as document 01 says.
+// or obeyed as document 01 says. C has an export for each call, also where two differ in the call alone.
 #![tactic(auto)]
 
 mod answers;

@@ -1,4 +1,5 @@
-// Arithmetic on words of 32 bits: sums, comparisons, shifts and the ALU, each the report's own function (pages 10 to 16, tables 5 and 6).
+// Arithmetic on words of 32 bits: sums, comparisons, shifts and the ALU, each the report's own function (pages 10 to 16, tables 5 and 6). A function is
+// chosen by the number that the tables give it, an arm a row, to be read beside them.
 #![tactic(auto)]
 
 ghost use Rattle.std.specs.Prelude.{◌≡◌, ℕ, ◌<◌, true, false};
@@ -69,7 +70,7 @@ fn overflows(exact: i64) -> bool
     i32::try_from(exact).is_err()
 }
 
-// R + M. Nobody above this crate knows how overflow is worked out.
+// R + M. Nobody above this crate knows how overflow is worked out. (Sum and difference stay two functions, as ADD32 and SUB32 are in the report.)
 pub fn add(r: u32, m: u32) -> Sum
     ensures { sum_triple result ≡ ADD32 (r, m) }
 {
