@@ -4,7 +4,6 @@ ghost use Rattle.std.proofs.Math.Seq.{slice};
 ghost use Rattle.trail.specs.Newest.{leaving, read_in_form, newest_fitted};
 ghost use Rattle.reading.specs.Finding.{word_fits};
 
-use crate::numbers::read_number;
 use crate::reader::TrailReader;
 use machine::Place;
 use trail::places::place_of_number;
@@ -79,7 +78,7 @@ pub fn newest(trail: &[u8], used: usize, main: usize, ports: usize) -> Result<Ne
 {
     let end = used - 1;
     // The last byte in use is L. It is below 29, and so a number of one group.
-    let (l, _) = read_number(trail, end, used, LENGTHS)?;
+    let l = TrailReader::new(trail, end, used).next_number(LENGTHS)?;
     let n = l as usize;
     if n < SHORTEST {
         return Err(Broken);

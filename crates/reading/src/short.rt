@@ -7,6 +7,7 @@ ghost use Rattle.reading.specs.Finding.{Says, Tells, MarksAt, TwoBytes, unmarked
 
 use crate::from_end::{ADDRESSES, KINDS, MARKS, SHORTEST};
 use crate::numbers::read_number;
+use crate::reader::TrailReader;
 use trail::{Broken, Kind, OldValues};
 
 // The bounds of an L so small, and of a number of one group.
@@ -140,7 +141,7 @@ pub fn read_short(trail: &[u8], used: usize) -> Result<Option<ShortRecord>, Brok
     ensures { (main ports : ℕ) → Says (get_or trail.now (used - 1) 0) result (newest_fitted main ports trail.now used) }
 {
     let end = used - 1;
-    let Ok((n, _)) = read_number(trail, end, used, SHORT) else {
+    let Ok(n) = TrailReader::new(trail, end, used).next_number(SHORT) else {
         return Ok(None);
     };
     let l = n as usize;

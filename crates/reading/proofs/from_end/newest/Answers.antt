@@ -14,14 +14,14 @@ use Rattle.trail.specs.Newest.{fits, newest_fitted, only_fitted, broken_record, 
 use Rattle.trail.specs.Numbers.{read_below}
 use Rattle.trail.specs.Records.{marked, where_of_number}
 use Rattle.trail.proofs.NewestReadsBack.{too_short, too_long, past_the_first, by_L}
-use Rattle.reading.specs.Finding.{Number, number_of, read_up_to, word_fits}
-use Rattle.reading.proofs.ReadingNumbers.{is_byte, no_byte, the_error}
+use Rattle.reading.specs.Finding.{read_of, word_fits}
+use Rattle.reading.proofs.ReadingNumbers.{next_byte, no_next_byte, the_error}
 use Rattle.reading.proofs.from_end.newest.Goals as goal
 
--- The last byte in use is read as L, below 29; `next` is the place after it.
-module _ (s : List ℕ) (used : ℕ) (known : (0 < used) × (used ≤ length s)) {r : Number} {l next : ℕ} (read : r ≡ number_of used (read_below 29 (slice (used - 1) used s))) (is : r ≡ read_up_to l next) where
+-- The last byte in use is read as L, below 29.
+module _ (s : List ℕ) (used : ℕ) (known : (0 < used) × (used ≤ length s)) {old : List ℕ} (made : old ≡ slice (used - 1) used s) {r : Result ℕ Broken} (rest : List ℕ) {l : ℕ} (read : read_below 29 old ≡ read_of r rest) (is : r ≡ Ok l) where
   L : (get_or s (used - 1) 0 ≡ l) × (l < 29)
-  L = is_byte s (used - 1) used 29 (omega arith) (omega arith) (omega arith) read is
+  L = next_byte s (used - 1) used 29 (omega arith) (omega arith) (omega arith) made rest read is
 
   -- Where L is neither too small nor past the first byte, the newest record is what is read of the bytes before it.
   found : (main ports : ℕ) → 3 ≤ l → l ≤ used - 1 → {n : Result Newest Broken} → n ≡ leaving (used - 1 - l) (read_in_form true (2 ^ 21) (slice (used - 1 - l) (used - 1) s)) → newest_fitted main ports s used ≡ only_fitted main ports n
@@ -47,35 +47,35 @@ pub returns-in_err-l : goal.returns-in_err-l
 unfolding newest_fitted
 returns-in_err-l c =
     let a = c.args in
-    let l = no_byte a.trail.now (a.used - 1) a.used 29 (omega arith) (omega arith) (omega arith) c.read_number.ensures c.in_err-l.was in
+    let l = no_next_byte a.trail.now (a.used - 1) a.used 29 (omega arith) (omega arith) (omega arith) c.new.ensures _ c.next_number.ensures.reads c.in_err-l.was in
     rw (the_error c.from_residual.result c.from_residual.ensures.0, too_long true (2 ^ 21) a.trail.now a.used l)
 
 pub returns-then-n-lt-SHORTEST : goal.returns-then-n-lt-SHORTEST
 unfolding newest_fitted
 returns-then-n-lt-SHORTEST c =
-    let l = L c.args.trail.now c.args.used c.requires c.read_number.ensures c.in_ok-l.was in
+    let l = L c.args.trail.now c.args.used c.requires c.new.ensures _ c.next_number.ensures.reads c.in_ok-l.was in
     rw (too_short true (2 ^ 21) c.args.trail.now c.args.used (omega arith))
 
 pub returns-then-end-n : goal.returns-then-end-n
 unfolding newest_fitted
 returns-then-end-n c =
-    let l = L c.args.trail.now c.args.used c.requires c.read_number.ensures c.in_ok-l.was in
+    let l = L c.args.trail.now c.args.used c.requires c.new.ensures _ c.next_number.ensures.reads c.in_ok-l.was in
     rw (past_the_first true (2 ^ 21) c.args.trail.now c.args.used (omega arith) (omega arith) (omega arith))
 
 pub returns-in_err-record : goal.returns-in_err-record
 returns-in_err-record c =
     let a = c.args in
     rw (the_error c.from_residual-in_err-record.result c.from_residual-in_err-record.ensures.0)
-    (sym (found a.trail.now a.used c.requires c.read_number.ensures c.in_ok-l.was a.main a.ports c.if-n-lt-SHORTEST.false c.if-end-n.false c.in_err-record.ensures))
+    (sym (found a.trail.now a.used c.requires c.new.ensures _ c.next_number.ensures.reads c.in_ok-l.was a.main a.ports c.if-n-lt-SHORTEST.false c.if-end-n.false c.in_err-record.ensures))
 
 pub returns-then-is_fitted : goal.returns-then-is_fitted
 returns-then-is_fitted c =
     let a = c.args in
-    sym (found a.trail.now a.used c.requires c.read_number.ensures c.in_ok-l.was a.main a.ports c.if-n-lt-SHORTEST.false c.if-end-n.false c.in_ok-record.ensures
+    sym (found a.trail.now a.used c.requires c.new.ensures _ c.next_number.ensures.reads c.in_ok-l.was a.main a.ports c.if-n-lt-SHORTEST.false c.if-end-n.false c.in_ok-record.ensures
     ∙ stays a.main a.ports c.in_ok-record.record (sym c.is_fitted.ensures ∙ c.if-is_fitted.true))
 
 pub returns : goal.returns
 returns c =
     let a = c.args in
-    sym (found a.trail.now a.used c.requires c.read_number.ensures c.in_ok-l.was a.main a.ports c.if-n-lt-SHORTEST.false c.if-end-n.false c.in_ok-record.ensures
+    sym (found a.trail.now a.used c.requires c.new.ensures _ c.next_number.ensures.reads c.in_ok-l.was a.main a.ports c.if-n-lt-SHORTEST.false c.if-end-n.false c.in_ok-record.ensures
     ∙ goes a.main a.ports c.in_ok-record.record (sym c.is_fitted.ensures ∙ c.if-is_fitted.false))

@@ -12,9 +12,9 @@ use Rattle.trail.specs.declared.Kind.{Kind}
 use Rattle.trail.specs.Records.{kind_read}
 use Rattle.trail.specs.Newest.{newest_fitted}
 use Rattle.trail.specs.Numbers.{read_below}
-use Rattle.reading.specs.Finding.{Number, MarksAt, Tells, TwoBytes, after_kind, number_of, read_up_to, with_value}
+use Rattle.reading.specs.Finding.{Number, MarksAt, Tells, TwoBytes, after_kind, number_of, read_of, read_up_to, with_value}
 use Rattle.reading.specs.declared.short.ShortRecord.{ShortRecord}
-use Rattle.reading.proofs.ReadingNumbers.{kind_unread, is_byte, no_byte, the_error}
+use Rattle.reading.proofs.ReadingNumbers.{kind_unread, is_byte, no_byte, next_byte, the_error}
 use Rattle.reading.proofs.ShortRecords.{tells_newest, too_few, past, marks_broken, pair_broken, pair_says, kind_large, tells_kind}
 use Rattle.reading.proofs.short.read_short.Goals as goal
 
@@ -22,10 +22,10 @@ use Rattle.reading.proofs.short.read_short.Goals as goal
 abbrev bad : Result ShortRecord Broken
 bad = Err (record {})
 
--- The last byte in use is read as L, below 5; `next` is the place after it.
-module _ (s : List ℕ) (used : ℕ) (known : (0 < used) × (used ≤ length s)) {r : Number} {l next : ℕ} (read : r ≡ number_of used (read_below 5 (slice (used - 1) used s))) (is : r ≡ read_up_to l next) where
+-- The last byte in use is read as L, below 5.
+module _ (s : List ℕ) (used : ℕ) (known : (0 < used) × (used ≤ length s)) {old : List ℕ} (made : old ≡ slice (used - 1) used s) {r : Result ℕ Broken} (rest : List ℕ) {l : ℕ} (read : read_below 5 old ≡ read_of r rest) (is : r ≡ Ok l) where
   L : (get_or s (used - 1) 0 ≡ l) × (l < 5)
-  L = is_byte s (used - 1) used 5 (omega arith) (omega arith) (omega arith) read is
+  L = next_byte s (used - 1) used 5 (omega arith) (omega arith) (omega arith) made rest read is
 
   -- The first byte that L counts is read as the kind: what is told of the j bytes after it is told of the newest record.
   kind_read_at : 3 ≤ l → l ≤ used - 1 → {kind : Kind} → Ok kind ≡ kind_read (get_or s (used - 1 - l) 0)
@@ -47,13 +47,13 @@ marks_read s end h fits read is =
 
 pub returns-then-l-lt-SHORTEST : goal.returns-then-l-lt-SHORTEST
 returns-then-l-lt-SHORTEST c =
-    let l = L c.args.trail.now c.args.used c.requires c.read_number.ensures c.in-Ok.is in
+    let l = L c.args.trail.now c.args.used c.requires c.new.ensures _ c.next_number.ensures.reads c.in-Ok.is in
     too_few c.args.trail.now c.args.used (omega arith)
 
 pub returns-then-end-l : goal.returns-then-end-l
 returns-then-end-l c =
     let a = c.args in
-    let l = L a.trail.now a.used c.requires c.read_number.ensures c.in-Ok.is in
+    let l = L a.trail.now a.used c.requires c.new.ensures _ c.next_number.ensures.reads c.in-Ok.is in
     tells_newest a.trail.now a.used _ bad l.0 (past a.trail.now (a.used - 1) _ c.if-l-lt-SHORTEST.false (omega arith) c.if-end-l.true)
 
 pub returns-in_err-kind : goal.returns-in_err-kind
@@ -61,7 +61,7 @@ returns-in_err-kind c =
     let s = c.args.trail.now in
     let end = c.args.used - 1 in
     let n = c.in-Ok.n in
-    let l = L s c.args.used c.requires c.read_number.ensures c.in-Ok.is in
+    let l = L s c.args.used c.requires c.new.ensures _ c.next_number.ensures.reads c.in-Ok.is in
     let large = kind_unread (get_or s (end - n) 0) c.in_err-kind.field-0.0 c.in_err-kind.ensures in
     rw (the_error c.from_residual.result c.from_residual.ensures.0)
     (tells_newest s c.args.used n bad l.0 (kind_large s end n c.if-l-lt-SHORTEST.false (omega arith) c.if-end-l.false (omega arith) large))
@@ -69,46 +69,46 @@ returns-in_err-kind c =
 pub returns-in_err-two_bytes : goal.returns-in_err-two_bytes
 returns-in_err-two_bytes c =
     rw (the_error c.from_residual-in_err-two_bytes.result c.from_residual-in_err-two_bytes.ensures.0)
-    (kind_read_at c.args.trail.now c.args.used c.requires c.read_number.ensures c.in-Ok.is c.if-l-lt-SHORTEST.false c.if-end-l.false c.in_ok-kind.ensures
+    (kind_read_at c.args.trail.now c.args.used c.requires c.new.ensures _ c.next_number.ensures.reads c.in-Ok.is c.if-l-lt-SHORTEST.false c.if-end-l.false c.in_ok-kind.ensures
     2 c.if-l-eq-SHORTEST.true bad c.in_err-two_bytes.ensures)
 
 pub returns-then-l-eq-SHORTEST : goal.returns-then-l-eq-SHORTEST
 returns-then-l-eq-SHORTEST c =
-    kind_read_at c.args.trail.now c.args.used c.requires c.read_number.ensures c.in-Ok.is c.if-l-lt-SHORTEST.false c.if-end-l.false c.in_ok-kind.ensures
+    kind_read_at c.args.trail.now c.args.used c.requires c.new.ensures _ c.next_number.ensures.reads c.in-Ok.is c.if-l-lt-SHORTEST.false c.if-end-l.false c.in_ok-kind.ensures
     2 c.if-l-eq-SHORTEST.true (Ok c.in_ok-two_bytes.field-0) c.in_ok-two_bytes.ensures
 
 pub returns-in_err-marks : goal.returns-in_err-marks
 returns-in_err-marks c =
     let s = c.args.trail.now in
     let end = c.args.used - 1 in
-    let large = no_byte s (end - 3) (end - 3 + 1) 64 refl (omega arith) (omega arith) c.read_number-2.ensures c.in_err-marks.was in
+    let large = no_byte s (end - 3) (end - 3 + 1) 64 refl (omega arith) (omega arith) c.read_number.ensures c.in_err-marks.was in
     rw (the_error c.from_residual-in_err-marks.result c.from_residual-in_err-marks.ensures.0)
-    (kind_read_4 s c.args.used c.requires c.read_number.ensures c.in-Ok.is c.if-l-lt-SHORTEST.false c.if-end-l.false c.if-l-eq-SHORTEST.false c.in_ok-kind.ensures
+    (kind_read_4 s c.args.used c.requires c.new.ensures _ c.next_number.ensures.reads c.in-Ok.is c.if-l-lt-SHORTEST.false c.if-end-l.false c.if-l-eq-SHORTEST.false c.in_ok-kind.ensures
     bad (λ four. marks_broken c.in_ok-kind.kind s end 3 (get_or s (end - 3) 0) (omega arith) four (omega arith) refl large))
 
 pub wide_p-requires : goal.wide_p-requires
 wide_p-requires c =
-    let l = L c.args.trail.now c.args.used c.requires c.read_number.ensures c.in-Ok.is in
-    (omega arith, omega arith, marks_read c.args.trail.now (c.args.used - 1) (omega arith) (omega arith) c.read_number-2.ensures c.in_ok-marks.was, c.if-marks-eq0.true)
+    let l = L c.args.trail.now c.args.used c.requires c.new.ensures _ c.next_number.ensures.reads c.in-Ok.is in
+    (omega arith, omega arith, marks_read c.args.trail.now (c.args.used - 1) (omega arith) (omega arith) c.read_number.ensures c.in_ok-marks.was, c.if-marks-eq0.true)
 
 pub returns-in_err-wide_p : goal.returns-in_err-wide_p
 returns-in_err-wide_p c =
     rw (the_error c.from_residual-in_err-wide_p.result c.from_residual-in_err-wide_p.ensures.0)
-    (kind_read_4 c.args.trail.now c.args.used c.requires c.read_number.ensures c.in-Ok.is c.if-l-lt-SHORTEST.false c.if-end-l.false c.if-l-eq-SHORTEST.false c.in_ok-kind.ensures
+    (kind_read_4 c.args.trail.now c.args.used c.requires c.new.ensures _ c.next_number.ensures.reads c.in-Ok.is c.if-l-lt-SHORTEST.false c.if-end-l.false c.if-l-eq-SHORTEST.false c.in_ok-kind.ensures
     bad (λ four. c.in_err-wide_p.ensures))
 
 pub returns-then-marks-eq0 : goal.returns-then-marks-eq0
 returns-then-marks-eq0 c =
-    kind_read_4 c.args.trail.now c.args.used c.requires c.read_number.ensures c.in-Ok.is c.if-l-lt-SHORTEST.false c.if-end-l.false c.if-l-eq-SHORTEST.false c.in_ok-kind.ensures
+    kind_read_4 c.args.trail.now c.args.used c.requires c.new.ensures _ c.next_number.ensures.reads c.in-Ok.is c.if-l-lt-SHORTEST.false c.if-end-l.false c.if-l-eq-SHORTEST.false c.in_ok-kind.ensures
     (Ok c.in_ok-wide_p.field-0) (λ four. c.in_ok-wide_p.ensures)
 
 pub returns-in_err-p : goal.returns-in_err-p
 returns-in_err-p c =
     let s = c.args.trail.now in
     let end = c.args.used - 1 in
-    let marks = marks_read s end (omega arith) (omega arith) c.read_number-2.ensures c.in_ok-marks.was in
+    let marks = marks_read s end (omega arith) (omega arith) c.read_number.ensures c.in_ok-marks.was in
     rw (the_error c.from_residual-in_err-p.result c.from_residual-in_err-p.ensures.0)
-    (kind_read_4 s c.args.used c.requires c.read_number.ensures c.in-Ok.is c.if-l-lt-SHORTEST.false c.if-end-l.false c.if-l-eq-SHORTEST.false c.in_ok-kind.ensures
+    (kind_read_4 s c.args.used c.requires c.new.ensures _ c.next_number.ensures.reads c.in-Ok.is c.if-l-lt-SHORTEST.false c.if-end-l.false c.if-l-eq-SHORTEST.false c.in_ok-kind.ensures
     bad (λ four. pair_broken c.in_ok-kind.kind s end _ four (omega arith) marks c.if-marks-eq0.false c.in_err-p.ensures))
 
 -- P and the value are read: what is made of them is told.
@@ -120,15 +120,15 @@ pub returns-in_err-with_value : goal.returns-in_err-with_value
 returns-in_err-with_value c =
     let s = c.args.trail.now in
     let end = c.args.used - 1 in
-    let marks = marks_read s end (omega arith) (omega arith) c.read_number-2.ensures c.in_ok-marks.was in
+    let marks = marks_read s end (omega arith) (omega arith) c.read_number.ensures c.in_ok-marks.was in
     rw (the_error c.from_residual-in_err-with_value.result c.from_residual-in_err-with_value.ensures.0)
-    (kind_read_4 s c.args.used c.requires c.read_number.ensures c.in-Ok.is c.if-l-lt-SHORTEST.false c.if-end-l.false c.if-l-eq-SHORTEST.false c.in_ok-kind.ensures
+    (kind_read_4 s c.args.used c.requires c.new.ensures _ c.next_number.ensures.reads c.in-Ok.is c.if-l-lt-SHORTEST.false c.if-end-l.false c.if-l-eq-SHORTEST.false c.in_ok-kind.ensures
     bad (value_told s end c.in_ok-kind.kind c.in_ok-marks.marks marks c.if-marks-eq0.false (omega arith) c.in_ok-p.ensures c.in_err-with_value.ensures))
 
 pub returns : goal.returns
 returns c =
     let s = c.args.trail.now in
     let end = c.args.used - 1 in
-    let marks = marks_read s end (omega arith) (omega arith) c.read_number-2.ensures c.in_ok-marks.was in
-    kind_read_4 s c.args.used c.requires c.read_number.ensures c.in-Ok.is c.if-l-lt-SHORTEST.false c.if-end-l.false c.if-l-eq-SHORTEST.false c.in_ok-kind.ensures
+    let marks = marks_read s end (omega arith) (omega arith) c.read_number.ensures c.in_ok-marks.was in
+    kind_read_4 s c.args.used c.requires c.new.ensures _ c.next_number.ensures.reads c.in-Ok.is c.if-l-lt-SHORTEST.false c.if-end-l.false c.if-l-eq-SHORTEST.false c.in_ok-kind.ensures
     (Ok c.in_ok-with_value.field-0) (value_told s end c.in_ok-kind.kind c.in_ok-marks.marks marks c.if-marks-eq0.false (omega arith) c.in_ok-p.ensures c.in_ok-with_value.ensures)
