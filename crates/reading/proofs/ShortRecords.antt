@@ -24,7 +24,7 @@ use Rattle.trail.specs.Newest.{and_then, at_end, read_from_marks, read_in_form, 
 use Rattle.trail.proofs.NewestReadsBack.{too_short}
 use Rattle.reading.specs.declared.short.Marked.{Marked}
 use Rattle.reading.specs.declared.short.Marked.TheVariants as mark_of
-use Rattle.reading.specs.declared.short.ShortRecord.{ShortRecord}
+use Rattle.reading.specs.declared.short.MarkedRecord.{MarkedRecord}
 use Rattle.reading.specs.Finding.{Number, number_of, read_broken, read_up_to, after_kind, Holds, MarksAlone, MarksAt, Tells, TwoBytes, registers, unmarked, short_record, with_value}
 use Rattle.reading.proofs.ReadingGroups.{no_bytes}
 use Rattle.reading.proofs.ReadingNumbers.{kind_known, kind_small, first_byte, is_got, is_broken}
@@ -303,7 +303,7 @@ no_word mark_of.Y m h e = omega (arith, e, sixteen m, h)
 no_word mark_of.Any m h e = h
 
 module _ (main ports : ℕ) where
-  tells_fitted : (r : Result ShortRecord BrokenType) (n : Result Newest BrokenType) → Tells r n → Tells r (only_fitted main ports n)
+  tells_fitted : (r : Result MarkedRecord BrokenType) (n : Result Newest BrokenType) → Tells r n → Tells r (only_fitted main ports n)
   tells_fitted (Ok r) n h =
       record { holds = rw (h.holds, ne_eqb (r.values.marks / 8 % 2) 1 (no_word r.marked r.values.marks h.marks)); marks = h.marks }
   tells_fitted (Err e) n h = rw h
@@ -312,7 +312,7 @@ by_L : (s : List ℕ) (used k : ℕ) → get_or s (used - 1) 0 ≡ k → newest_
 unfolding newest_in
 by_L s used k e = rw e
 
-pub tells_newest : (s : List ℕ) (used k : ℕ) (r : Result ShortRecord BrokenType) → get_or s (used - 1) 0 ≡ k → Tells r (before_L (2 ^ 21) s (used - 1) k) → (main ports : ℕ) → Tells r (newest_fitted main ports s used)
+pub tells_newest : (s : List ℕ) (used k : ℕ) (r : Result MarkedRecord BrokenType) → get_or s (used - 1) 0 ≡ k → Tells r (before_L (2 ^ 21) s (used - 1) k) → (main ports : ℕ) → Tells r (newest_fitted main ports s used)
 unfolding newest_fitted
 tells_newest s used k r e h main ports = rw (by_L s used k e) (tells_fitted main ports r (before_L (2 ^ 21) s (used - 1) k) h)
 
@@ -325,7 +325,7 @@ pub past : (s : List ℕ) (end k : ℕ) → 3 ≤ k → k ≤ 28 → end < k →
 past s end k low high h = rw (le-ltb k 3 low, le-ltb 28 k high, lt-ltb end k h)
 
 pub tells_kind : (s : List ℕ) (used k : ℕ) → get_or s (used - 1) 0 ≡ k → 3 ≤ k → k ≤ 28 → k ≤ used - 1 → used - 1 < length s → (kind : Kind) → Ok kind ≡ kind_read (get_or s (used - 1 - k) 0) → (j : ℕ) → k ≡ suc j
-    → (r : Result ShortRecord BrokenType) → Tells r (after_kind kind s (used - 1) j)
+    → (r : Result MarkedRecord BrokenType) → Tells r (after_kind kind s (used - 1) j)
     → (main ports : ℕ) → Tells r (newest_fitted main ports s used)
 tells_kind s used k e low high inside fits kind f j u r h =
     tells_newest s used k r e (rw (kind_first s (used - 1) k low high inside fits kind f j u) h)

@@ -11,7 +11,7 @@ use Rattle.trail.specs.declared.Newest.{Newest}
 use Rattle.trail.specs.declared.Broken.{Broken}
 use Rattle.reading.specs.declared.short.Marked.{Marked}
 use Rattle.reading.specs.declared.short.Marked.TheVariants as marked
-use Rattle.reading.specs.declared.short.ShortRecord.{ShortRecord}
+use Rattle.reading.specs.declared.short.MarkedRecord.{MarkedRecord}
 
 -- What reading a number answers: its value and the place after it.
 abbrev pub Number : Type 0
@@ -48,7 +48,7 @@ MarksAlone marked.Y m = m % 16 ≡ 4
 MarksAlone marked.Any m = ⊥
 
 -- The newest record is this one.
-pub record Holds (n : Result Newest Broken) (r : ShortRecord) : Type 0 where
+pub record Holds (n : Result Newest Broken) (r : MarkedRecord) : Type 0 where
   pub holds : n ≡ read_back r.values r.left
   pub marks : MarksAlone r.marked r.values.marks
 
@@ -62,12 +62,12 @@ pub record MarksAt (s : List ℕ) (at marks : ℕ) : Type 0 where
   pub small : marks < 64
 
 -- What is said of the newest record, if it is short: it is this one, or it is broken.
-abbrev pub Tells : Result ShortRecord Broken → Result Newest Broken → Type 0
+abbrev pub Tells : Result MarkedRecord Broken → Result Newest Broken → Type 0
 Tells (Ok r) n = Holds n r
 Tells (Err e) n = n ≡ broken_record
 
 -- The same, by its L: where five bytes or more stand before L, that alone.
-abbrev pub Says : ℕ → Result (Option ShortRecord) Broken → Result Newest Broken → Type 0
+abbrev pub Says : ℕ → Result (Option MarkedRecord) Broken → Result Newest Broken → Type 0
 Says l (Ok None) n = 5 ≤ l
 Says l (Ok (Some r)) n = Holds n r
 Says l (Err e) n = n ≡ broken_record
@@ -84,11 +84,11 @@ registers kind m p a x y = record { kind = kind; marks = m; p = p; a = a; x = x;
 abbrev pub unmarked : Kind → ℕ → ℕ → OldValues
 unmarked kind m p = registers kind m p 0 0 0
 
-abbrev pub short_record : Marked → OldValues → ℕ → ShortRecord
+abbrev pub short_record : Marked → OldValues → ℕ → MarkedRecord
 short_record k o left = record { marked = k; values = o; left = left }
 
 -- The short record of the only value that these marks mark: of A, X or Y.
-unfoldable pub with_value : Kind → ℕ → ℕ → ℕ → ℕ → Result ShortRecord Broken
+unfoldable pub with_value : Kind → ℕ → ℕ → ℕ → ℕ → Result MarkedRecord Broken
 with_value kind m p v left =
     cond (eqb (m % 16) 1) (Ok (short_record marked.A (registers kind m p v 0 0) left))
     (cond (eqb (m % 16) 2) (Ok (short_record marked.X (registers kind m p 0 v 0) left))

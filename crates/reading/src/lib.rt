@@ -8,4 +8,4 @@ mod short;
 
 pub use from_end::{newest, read_record};
 pub use numbers::read_number;
-pub use short::{Marked, ShortRecord, read_short};
+pub use short::{Marked, MarkedRecord, read_short};

@@ -25,9 +25,9 @@ pub enum Marked {
     Any,
 }
 
-// A record so short: what it marks, which is nothing or one register alone; its old values, and the count of bytes in use once it is gone.
+// A record read back: what it is known to mark (a short one nothing, or one register alone), its old values, and the count of bytes in use once it is gone.
 #[derive(Clone, Copy, Debug, PartialEq, Eq)]
-pub struct ShortRecord {
+pub struct MarkedRecord {
     pub marked: Marked,
     pub values: OldValues,
     pub left: usize,
@@ -59,7 +59,7 @@ fn unmarked(kind: Kind, marks: u32, p: u32) -> OldValues
 }
 
 // After the kind, marks and P, each one byte: nothing is marked.
-fn two_bytes(kind: Kind, trail: &[u8], end: usize) -> Result<ShortRecord, Broken>
+fn two_bytes(kind: Kind, trail: &[u8], end: usize) -> Result<MarkedRecord, Broken>
     requires { (3 ≤ end) × (end < length trail.now) }
     ensures { Tells result (after_kind kind trail.now end 2) }
 {
@@ -69,7 +69,7 @@ fn two_bytes(kind: Kind, trail: &[u8], end: usize) -> Result<ShortRecord, Broken
         return Err(Broken);
     }
     let (p, _) = read_number(trail, start + 1, end, GROUP)?;
-    Ok(ShortRecord {
+    Ok(MarkedRecord {
         marked: Marked::Nothing,
         values: unmarked(kind, marks, p),
         left: start - 1,
@@ -77,14 +77,14 @@ fn two_bytes(kind: Kind, trail: &[u8], end: usize) -> Result<ShortRecord, Broken
 }
 
 // After the kind and marks that mark nothing, P in two bytes.
-fn wide_p(kind: Kind, marks: u32, trail: &[u8], end: usize) -> Result<ShortRecord, Broken>
+fn wide_p(kind: Kind, marks: u32, trail: &[u8], end: usize) -> Result<MarkedRecord, Broken>
     requires { (4 ≤ end) × (end < length trail.now) × MarksAt trail.now (end - 3) marks × (marks % 16 ≡ 0) }
     ensures { Tells result (after_kind kind trail.now end 3) }
 {
     let start = end - 3;
     let (p, next) = read_number(trail, start + 1, end, ADDRESSES)?;
     if next == end {
-        return Ok(ShortRecord {
+        return Ok(MarkedRecord {
             marked: Marked::Nothing,
             values: unmarked(kind, marks, p),
             left: start - 1,
@@ -111,22 +111,22 @@ fn with_value(
     p: u32,
     value: u32,
     left: usize,
-) -> Result<ShortRecord, Broken>
+) -> Result<MarkedRecord, Broken>
     ensures { result ≡ with_value kind marks p value left }
 {
     let base = unmarked(kind, marks, p);
     match marks % 16 {
-        1 => Ok(ShortRecord {
+        1 => Ok(MarkedRecord {
             marked: Marked::A,
             values: OldValues { a: value, ..base },
             left,
         }),
-        2 => Ok(ShortRecord {
+        2 => Ok(MarkedRecord {
             marked: Marked::X,
             values: OldValues { x: value, ..base },
             left,
         }),
-        4 => Ok(ShortRecord {
+        4 => Ok(MarkedRecord {
             marked: Marked::Y,
             values: OldValues { y: value, ..base },
             left,
@@ -136,7 +136,7 @@ fn with_value(
 }
 
 // The newest record of a trail of which `used` bytes are in use, if it is so short; none, if it is longer. It marks no word, so the stores do not matter.
-pub fn read_short(trail: &[u8], used: usize) -> Result<Option<ShortRecord>, Broken>
+pub fn read_short(trail: &[u8], used: usize) -> Result<Option<MarkedRecord>, Broken>
     requires { (0 < used) × (used ≤ length trail.now) }
     ensures { (main ports : ℕ) → Says (get_or trail.now (used - 1) 0) result (newest_fitted main ports trail.now used) }
 {

@@ -17,7 +17,7 @@ use Rattle.trail.specs.declared.Newest.{Newest}
 use Rattle.trail.specs.declared.Broken.{Broken}
 use Rattle.trail.specs.Newest.{read_back}
 use Rattle.reading.specs.Finding.{MarksAlone, Holds, Says}
-use Rattle.reading.specs.declared.short.ShortRecord.{ShortRecord}
+use Rattle.reading.specs.declared.short.MarkedRecord.{MarkedRecord}
 use Rattle.viper.specs.declared.Refusal.TheVariants.{BrokenRecord}
 use Rattle.std.specs.Prelude.{Result, Ok, Err, Option, Some}
 use Rattle.viper.specs.Refusals.{Answer}
@@ -61,8 +61,8 @@ module _ (m : Machine) (main ports trail : List ℕ) (used : ℕ) (a : Answer) (
       }
 
   -- r is what was said of a short record.
-  module _ (r : Result (Option ShortRecord) Broken) (l : ℕ) (said : Says l r (newest_of (bench m main ports trail used))) where
-    pub short_restores : (s : ShortRecord) → r ≡ Ok (Some s) → Restores (ram main ports) (bench m main ports trail used) s.values s.left s.marked
+  module _ (r : Result (Option MarkedRecord) Broken) (l : ℕ) (said : Says l r (newest_of (bench m main ports trail used))) where
+    pub short_restores : (s : MarkedRecord) → r ≡ Ok (Some s) → Restores (ram main ports) (bench m main ports trail used) s.values s.left s.marked
     short_restores s e =
         let h : Holds (newest_of (bench m main ports trail used)) s = rw e at said in
         restores (newest_of (bench m main ports trail used)) s.values s.left s.marked (ram main ports) refl h.holds

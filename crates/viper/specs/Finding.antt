@@ -11,7 +11,7 @@ use Rattle.viper.specs.TakingBack.{back_outcome}
 use Rattle.viper.specs.declared.Refusal.{Refusal}
 use Rattle.reading.specs.declared.short.Marked.{Marked}
 use Rattle.reading.specs.declared.short.Marked.TheVariants as marked
-use Rattle.viper.specs.declared.Restored.{Restored}
+use Rattle.reading.specs.declared.short.MarkedRecord.{MarkedRecord}
 
 -- What is known of a record's marks for A, X, Y and the word.
 abbrev pub Marks : Marked → ℕ → Type 0
@@ -27,6 +27,6 @@ pub record Restores (stores : Mem) (b : Bench) (o : OldValues) (left : ℕ) (k :
   pub marks : Marks k o.marks
 
 -- What is found where the stores are left so: the refusal that take back answers, or those old values.
-abbrev pub Finds : Result Restored Refusal → Mem → Bench → Type 0
+abbrev pub Finds : Result MarkedRecord Refusal → Mem → Bench → Type 0
 Finds (Err r) stores b = record { answered = Err r; bench = record { state = state (machine_of b.state) stores; trail = b.trail; used = b.used } } ≡ back_outcome b
 Finds (Ok f) stores b = Restores stores b f.values f.left f.marked

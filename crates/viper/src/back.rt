@@ -7,10 +7,10 @@ ghost use Rattle.viper.specs.Noting.{stores_restored, Refits};
 ghost use Rattle.viper.specs.Finding.{Finds};
 ghost use Rattle.viper.specs.Told.{bench};
 
+use crate::Refusal;
 use crate::calls::judge;
-use crate::{Refusal, Restored};
 use machine::Machine;
-use reading::Marked;
+use reading::{Marked, MarkedRecord};
 use step::finish::put_word;
 use trail::OldValues;
 use trail::places::place_of_number;
@@ -23,7 +23,7 @@ pub fn restore_stores(
     ports: &mut [u32],
     trail: &[u8],
     used: usize,
-) -> Result<Restored, Refusal>
+) -> Result<MarkedRecord, Refusal>
     ensures { Finds result (ram main.new ports.new) (bench m main.old ports.old trail.now used) }
 {
     judge(m.p, main.len(), ports.len(), trail.len(), used)?;
@@ -32,15 +32,11 @@ pub fn restore_stores(
     }
     // A short record marks no word, and at most one register.
     if let Some(short) = reading::read_short(trail, used)? {
-        return Ok(Restored {
-            marked: short.marked,
-            values: short.values,
-            left: short.left,
-        });
+        return Ok(short);
     }
     let newest = reading::newest(trail, used, main.len(), ports.len())?;
     word_restored(newest.values, main, ports);
-    Ok(Restored {
+    Ok(MarkedRecord {
         marked: Marked::Any,
         values: newest.values,
         left: newest.left,

@@ -10,8 +10,7 @@ pub mod calls;
 pub mod views;
 
 use machine::{Ending, Machine};
-use reading::Marked;
-use trail::{Broken, OldValues, TrailFull};
+use trail::{Broken, TrailFull};
 
 // Why a call was refused, by its number (document 01, "Numbers the counter sees").
 #[derive(Clone, Copy, Debug, PartialEq, Eq)]
@@ -60,13 +59,4 @@ pub struct Ran {
     pub used: usize,
     pub steps: u32,
     pub ending: Ending,
-}
-
-// What is left to take back once the stores are: the old values of the newest record, what it is known to mark, and the count of bytes in use
-// once it is gone.
-#[derive(Clone, Copy, Debug, PartialEq, Eq)]
-pub struct Restored {
-    pub marked: Marked,
-    pub values: OldValues,
-    pub left: usize,
 }

@@ -13,13 +13,13 @@ use Rattle.trail.specs.Records.{kind_read}
 use Rattle.trail.specs.Newest.{newest_fitted}
 use Rattle.trail.specs.Numbers.{read_below}
 use Rattle.reading.specs.Finding.{Number, MarksAt, Tells, TwoBytes, after_kind, number_of, read_of, read_up_to, with_value}
-use Rattle.reading.specs.declared.short.ShortRecord.{ShortRecord}
+use Rattle.reading.specs.declared.short.MarkedRecord.{MarkedRecord}
 use Rattle.reading.proofs.ReadingNumbers.{kind_unread, is_byte, no_byte, next_byte, the_error}
 use Rattle.reading.proofs.ShortRecords.{tells_newest, too_few, past, marks_broken, pair_broken, pair_says, kind_large, tells_kind}
 use Rattle.reading.proofs.short.read_short.Goals as goal
 
 -- A record that is broken.
-abbrev bad : Result ShortRecord Broken
+abbrev bad : Result MarkedRecord Broken
 bad = Err (record {})
 
 -- The last byte in use is read as L, below 5.
@@ -29,13 +29,13 @@ module _ (s : List ℕ) (used : ℕ) (known : (0 < used) × (used ≤ length s))
 
   -- The first byte that L counts is read as the kind: what is told of the j bytes after it is told of the newest record.
   kind_read_at : 3 ≤ l → l ≤ used - 1 → {kind : Kind} → Ok kind ≡ kind_read (get_or s (used - 1 - l) 0)
-      → (j : ℕ) → l ≡ suc j → (found : Result ShortRecord Broken) → Tells found (after_kind kind s (used - 1) j)
+      → (j : ℕ) → l ≡ suc j → (found : Result MarkedRecord Broken) → Tells found (after_kind kind s (used - 1) j)
       → (main ports : ℕ) → Tells found (newest_fitted main ports s used)
   kind_read_at low inside {kind} read₂ = tells_kind s used l L.0 low (omega (arith, L)) inside (omega arith) kind read₂
 
   -- The same where L is not 3, and so 4.
   kind_read_4 : 3 ≤ l → l ≤ used - 1 → (l ≡ 3 → ⊥) → {kind : Kind} → Ok kind ≡ kind_read (get_or s (used - 1 - l) 0)
-      → (found : Result ShortRecord Broken) → (4 ≤ used - 1 → Tells found (after_kind kind s (used - 1) 3))
+      → (found : Result MarkedRecord Broken) → (4 ≤ used - 1 → Tells found (after_kind kind s (used - 1) 3))
       → (main ports : ℕ) → Tells found (newest_fitted main ports s used)
   kind_read_4 low inside more read₂ found tells = kind_read_at low inside read₂ 3 (omega (arith, L)) found (tells (omega (arith, L)))
 
@@ -113,7 +113,7 @@ returns-in_err-p c =
 
 -- P and the value are read: what is made of them is told.
 module _ (s : List ℕ) (end : ℕ) (kind : Kind) (m : ℕ) (marks : MarksAt s (end - 3) m) (some : m % 16 ≡ 0 → ⊥) (fits : end < length s) {p v : ℕ} (two : TwoBytes s end (read_up_to p v)) where
-  value_told : {r : Result ShortRecord Broken} → r ≡ with_value kind m p v (end - 4) → 4 ≤ end → Tells r (after_kind kind s end 3)
+  value_told : {r : Result MarkedRecord Broken} → r ≡ with_value kind m p v (end - 4) → 4 ≤ end → Tells r (after_kind kind s end 3)
   value_told e four = rw e (pair_says kind s end m four fits marks some p v two)
 
 pub returns-in_err-with_value : goal.returns-in_err-with_value
