@@ -53,10 +53,6 @@ same_number {n} {next} {m} {k} e =
     let p : ◌≡◌ {A = ℕ × ℕ} (n, next) (m, k) = cc in
     (ap (λ (y : ℕ × ℕ). y.0) p, ap (λ (y : ℕ × ℕ). y.1) p)
 
-pub is_broken : (end : ℕ) (r : Read) → read_broken ≡ number_of end r → r ≡ broken
-is_broken end broken e = refl
-is_broken end (got n rest) e = let z : ◌≡◌ {A = ℕ} 0 1 = cc in absurd (omega arith)
-
 -- The bytes after a number are those from the place after it.
 pub is_got : (t : Bool) (bound : ℕ) (s : List ℕ) (at end n next : ℕ) → at ≤ end → end ≤ length s → read_up_to n next ≡ number_of end (read_if t bound (slice at end s))
     → (read_if t bound (slice at end s) ≡ got n (slice next end s)) × (next ≤ end)
@@ -96,14 +92,10 @@ last_two s at next end one two fits =
     let e : suc at ≡ next = omega arith in
     rw (slice-cons at end s 0 (omega arith) fits, e, last_byte s next end two fits)
 
--- What is read of one byte alone.
-byte_alone : (s : List ℕ) (at end bound : ℕ) → at + 1 ≡ end → end ≤ length s → bound ≤ 128 → read_below bound (slice at end s) ≡ cond (ltb (get_or s at 0) bound) (got (get_or s at 0) []) broken
-byte_alone s at end bound one fits small = rw (last_byte s at end one fits, first_byte bound (get_or s at 0) [] small)
-
 -- r is what the code found for such a byte.
 module _ (s : List ℕ) (at end bound : ℕ) (one : at + 1 ≡ end) (fits : end ≤ length s) (small : bound ≤ 128) {r : Number} (p : r ≡ number_of end (read_below bound (slice at end s))) where
   alone : r ≡ number_of end (cond (ltb (get_or s at 0) bound) (got (get_or s at 0) []) broken)
-  alone = p ∙ ap (number_of end) (byte_alone s at end bound one fits small)
+  alone = p ∙ rw (last_byte s at end one fits, first_byte bound (get_or s at 0) [] small)
 
   pub is_byte : {n next : ℕ} → r ≡ read_up_to n next → (get_or s at 0 ≡ n) × (n < bound)
   is_byte {n} {next} e = go (ltb (get_or s at 0) bound) refl (sym e ∙ alone)
@@ -119,18 +111,25 @@ module _ (s : List ℕ) (at end bound : ℕ) (one : at + 1 ≡ end) (fits : end 
       go true g q = let z : ◌≡◌ {A = ℕ} 0 1 = cc in absurd (omega arith)
       go false g q = ltb-false (get_or s at 0) bound g
 
--- The same of a reader of that byte: `old` is what it had to read, and `rest` is what it has left.
-module _ (s : List ℕ) (at end bound : ℕ) (one : at + 1 ≡ end) (fits : end ≤ length s) (small : bound ≤ 128) {old : List ℕ} (made : old ≡ slice at end s) {r : Result ℕ Broken} (rest : List ℕ) (p : read_below bound old ≡ read_of r rest) where
-  pub next_byte : {n : ℕ} → r ≡ Ok n → (get_or s at 0 ≡ n) × (n < bound)
-  next_byte {n} e = go (ltb (get_or s at 0) bound) refl (ap (λ (x : Result ℕ Broken). read_of x rest) (sym e) ∙ sym p ∙ ap (read_below bound) made ∙ byte_alone s at end bound one fits small)
+-- ---- a byte, read by a reader
+
+byte_at : (s : List ℕ) (at end bound : ℕ) → at < end → end ≤ length s → bound ≤ 128 → read_below bound (slice at end s) ≡ cond (ltb (get_or s at 0) bound) (got (get_or s at 0) (slice (at + 1) end s)) broken
+byte_at s at end bound low fits small =
+    let e : suc at ≡ at + 1 = omega arith in
+    ap (read_below bound) (slice-cons at end s 0 low fits ∙ ap (λ y. get_or s at 0 ∷ slice y end s) e) ∙ first_byte bound (get_or s at 0) (slice (at + 1) end s) small
+
+-- `old` is what the reader had to read, and `rest` is what it has left.
+module _ (s : List ℕ) (at end bound : ℕ) (low : at < end) (fits : end ≤ length s) (small : bound ≤ 128) {old : List ℕ} (made : old ≡ slice at end s) {r : Result ℕ Broken} (rest : List ℕ) (p : read_below bound old ≡ read_of r rest) where
+  pub next_byte : {n : ℕ} → r ≡ Ok n → (get_or s at 0 ≡ n) × (n < bound) × (rest ≡ slice (at + 1) end s)
+  next_byte {n} e = go (ltb (get_or s at 0) bound) refl (ap (λ (x : Result ℕ Broken). read_of x rest) (sym e) ∙ sym p ∙ ap (read_below bound) made ∙ byte_at s at end bound low fits small)
     where
-      go : (t : Bool) → ltb (get_or s at 0) bound ≡ t → got n rest ≡ cond t (got (get_or s at 0) []) broken → (get_or s at 0 ≡ n) × (n < bound)
-      go true g q = let v : get_or s at 0 ≡ n = cc in (v, omega (arith, ltb-true (get_or s at 0) bound g))
+      go : (t : Bool) → ltb (get_or s at 0) bound ≡ t → got n rest ≡ cond t (got (get_or s at 0) (slice (at + 1) end s)) broken → (get_or s at 0 ≡ n) × (n < bound) × (rest ≡ slice (at + 1) end s)
+      go true g q = let v : get_or s at 0 ≡ n = cc in (v, omega (arith, ltb-true (get_or s at 0) bound g), cc)
       go false g q = absurd (cc)
 
   pub no_next_byte : {b : Broken} → r ≡ Err b → bound ≤ get_or s at 0
-  no_next_byte {b} e = go (ltb (get_or s at 0) bound) refl (ap (λ (x : Result ℕ Broken). read_of x rest) (sym e) ∙ sym p ∙ ap (read_below bound) made ∙ byte_alone s at end bound one fits small)
+  no_next_byte {b} e = go (ltb (get_or s at 0) bound) refl (ap (λ (x : Result ℕ Broken). read_of x rest) (sym e) ∙ sym p ∙ ap (read_below bound) made ∙ byte_at s at end bound low fits small)
     where
-      go : (t : Bool) → ltb (get_or s at 0) bound ≡ t → broken ≡ cond t (got (get_or s at 0) []) broken → bound ≤ get_or s at 0
+      go : (t : Bool) → ltb (get_or s at 0) bound ≡ t → broken ≡ cond t (got (get_or s at 0) (slice (at + 1) end s)) broken → bound ≤ get_or s at 0
       go true g q = absurd (cc)
       go false g q = ltb-false (get_or s at 0) bound g

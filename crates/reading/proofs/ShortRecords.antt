@@ -10,7 +10,7 @@ use native.Mathlib.Nat.{div-div-eq-div-mul}
 use native.Mathlib.Numerals.{add-one}
 use lib.Dec.{ltb, eqb}
 use lib.ListN.{length, get_or}
-use lib.Seq.{slice, slice-cons, length-slice}
+use lib.Seq.{slice, slice-cons}
 use borrow.Author.Tests.{ltb-true, ltb-false, lt-ltb, le-ltb, eqb-true, eqb-false, eq-eqb, ne_eqb}
 use Rattle.std.specs.Prelude.{Result, Ok, Err}
 use Rattle.report.specs.AnnexA.{BV}
@@ -25,9 +25,9 @@ use Rattle.trail.proofs.NewestReadsBack.{too_short}
 use Rattle.reading.specs.declared.short.Marked.{Marked}
 use Rattle.reading.specs.declared.short.Marked.TheVariants as mark_of
 use Rattle.reading.specs.declared.short.MarkedRecord.{MarkedRecord}
-use Rattle.reading.specs.Finding.{Number, number_of, read_broken, read_up_to, after_kind, Holds, MarksAlone, MarksAt, Tells, TwoBytes, registers, unmarked, short_record, with_value}
+use Rattle.reading.specs.Finding.{read_broken, read_of, read_up_to, after_kind, Holds, MarksAlone, MarksAt, Tells, TwoBytes, registers, unmarked, short_record, with_value}
 use Rattle.reading.proofs.ReadingGroups.{no_bytes}
-use Rattle.reading.proofs.ReadingNumbers.{kind_known, kind_small, first_byte, is_got, is_broken}
+use Rattle.reading.proofs.ReadingNumbers.{kind_known, kind_small, first_byte}
 
 -- ---- the numbers after P, by what is marked
 
@@ -179,25 +179,24 @@ module _ (kind : Kind) (s : List ℕ) (end k m : ℕ) (some_bytes : 2 ≤ k) (in
     kept : (p : ℕ) → m % 16 ≡ 0 → read_below (2 ^ 20) tail ≡ got p [] → Holds (after_kind kind s end k) (short_record mark_of.Nothing (unmarked kind m p) (end - k - 1))
     kept p z e = record { holds = p_is p [] e ∙ ap (leaving (end - k - 1)) (plain kind m p [] z); marks = z }
 
-    -- Nothing is marked: P must take all bytes after the marks; r is what the code found for it.
-    module _ {r : Number} (found : r ≡ number_of end (read_below (2 ^ 20) tail)) where
-      pub no_p : r ≡ read_broken → after_kind kind s end k ≡ broken_record
-      no_p e = p_broken (is_broken end (read_below (2 ^ 20) tail) (sym e ∙ found))
+    -- Nothing is marked: P must take all bytes after the marks; r is what a reader of them found for it, and `rest` is what it has left.
+    module _ {old : List ℕ} (made : old ≡ tail) {r : Result ℕ BrokenType} (rest : List ℕ) (read : read_below (2 ^ 20) old ≡ read_of r rest) where
+      pub no_p : {b : BrokenType} → r ≡ Err b → after_kind kind s end k ≡ broken_record
+      no_p e = p_broken (ap (read_below (2 ^ 20)) (sym made) ∙ read ∙ ap (λ (x : Result ℕ BrokenType). read_of x rest) e)
 
-      module _ {p next : ℕ} (e : r ≡ read_up_to p next) (z : m % 16 ≡ 0) where
-        to : (read_below (2 ^ 20) tail ≡ got p (slice next end s)) × (next ≤ end)
-        to = is_got true (2 ^ 20) s (end - k + 1) end p next (omega arith) (omega arith) (sym e ∙ found)
+      module _ {p : ℕ} (e : r ≡ Ok p) (z : m % 16 ≡ 0) where
+        p_got : read_below (2 ^ 20) tail ≡ got p rest
+        p_got = ap (read_below (2 ^ 20)) (sym made) ∙ read ∙ ap (λ (x : Result ℕ BrokenType). read_of x rest) e
 
-        pub p_ends : next ≡ end → Holds (after_kind kind s end k) (short_record mark_of.Nothing (unmarked kind m p) (end - k - 1))
-        p_ends h =
-            let none : slice next end s ≡ [] = no_bytes (slice next end s) (length-slice next end s (omega arith) ∙ omega arith) in
-            kept p z (to.0 ∙ ap (got p) none)
+        pub p_ends : eqb (length rest) 0 ≡ true → Holds (after_kind kind s end k) (short_record mark_of.Nothing (unmarked kind m p) (end - k - 1))
+        p_ends h = kept p z (p_got ∙ ap (got p) (no_bytes rest (eqb-true (length rest) 0 h)))
 
-        pub left_over : (next ≡ end → ⊥) → after_kind kind s end k ≡ broken_record
-        left_over h =
-            let rest : slice next end s ≡ get_or s next 0 ∷ slice (suc next) end s = slice-cons next end s 0 (omega (arith, to.1, h)) (omega arith) in
-            let e : from_p kind m p (slice next end s) ≡ none = rw (plain kind m p (slice next end s) z, rest) in
-            p_is p (slice next end s) to.0 ∙ ap (leaving (end - k - 1)) e
+        pub left_over : eqb (length rest) 0 ≡ false → after_kind kind s end k ≡ broken_record
+        left_over h = p_is p rest p_got ∙ ap (leaving (end - k - 1)) (plain kind m p rest z ∙ go rest h)
+          where
+            go : (t : List ℕ) → eqb (length t) 0 ≡ false → at_end t (unmarked kind m p) ≡ none
+            go [] f = let w : true ≡ false = f in absurd (cc)
+            go (b ∷ t) f = refl
 
     -- One byte stands after the marks: P is that byte, and nothing is marked.
     module _ (b : ℕ) (one_byte : tail ≡ b ∷ []) where

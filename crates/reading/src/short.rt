@@ -1,12 +1,11 @@
-// The newest record where three or four bytes stand before L, its kind first: most steps add such a one. Its numbers stand at known places, so they are not read
-// one after another, and taking it back is quick. No trail byte is written here.
+// The newest record where three or four bytes stand before L, its kind first: most steps add such a one. Its numbers stand at known places, so
+// none is looked for, and taking it back is quick. No trail byte is written here.
 ghost use Rattle.std.specs.Prelude.{◌≡◌, ℕ, ◌-◌, ◌%◌, ◌<◌, ◌≤◌, length, get_or};
 ghost use Rattle.trail.specs.Newest.{newest_fitted};
 ghost use Rattle.trail.specs.Records.{kind_read};
 ghost use Rattle.reading.specs.Finding.{Says, Tells, MarksAt, TwoBytes, unmarked, with_value, after_kind};
 
 use crate::from_end::{ADDRESSES, KINDS, MARKS, SHORTEST};
-use crate::numbers::read_number;
 use crate::reader::TrailReader;
 use trail::{Broken, Kind, OldValues};
 
@@ -38,7 +37,7 @@ fn kind_at(trail: &[u8], at: usize) -> Result<Kind, Broken>
     requires { at < length trail.now }
     ensures { result ≡ kind_read (get_or trail.now at 0) }
 {
-    let (n, _) = read_number(trail, at, at + 1, KINDS)?;
+    let n = TrailReader::new(trail, at, at + 1).next_number(KINDS)?;
     Kind::try_from(n)
 }
 
@@ -63,16 +62,16 @@ fn two_bytes(kind: Kind, trail: &[u8], end: usize) -> Result<MarkedRecord, Broke
     requires { (3 ≤ end) × (end < length trail.now) }
     ensures { Tells result (after_kind kind trail.now end 2) }
 {
-    let start = end - 2;
-    let (marks, _) = read_number(trail, start, start + 1, MARKS)?;
+    let mut r = TrailReader::new(trail, end - 2, end);
+    let marks = r.next_number(MARKS)?;
     if marks % 16 != 0 {
         return Err(Broken);
     }
-    let (p, _) = read_number(trail, start + 1, end, GROUP)?;
+    let p = r.next_number(GROUP)?;
     Ok(MarkedRecord {
         marked: Marked::Nothing,
         values: unmarked(kind, marks, p),
-        left: start - 1,
+        left: end - 3,
     })
 }
 
@@ -81,13 +80,13 @@ fn wide_p(kind: Kind, marks: u32, trail: &[u8], end: usize) -> Result<MarkedReco
     requires { (4 ≤ end) × (end < length trail.now) × MarksAt trail.now (end - 3) marks × (marks % 16 ≡ 0) }
     ensures { Tells result (after_kind kind trail.now end 3) }
 {
-    let start = end - 3;
-    let (p, next) = read_number(trail, start + 1, end, ADDRESSES)?;
-    if next == end {
+    let mut r = TrailReader::new(trail, end - 2, end);
+    let p = r.next_number(ADDRESSES)?;
+    if r.is_at_end() {
         return Ok(MarkedRecord {
             marked: Marked::Nothing,
             values: unmarked(kind, marks, p),
-            left: start - 1,
+            left: end - 4,
         });
     }
     Err(Broken)
@@ -98,8 +97,9 @@ fn two_numbers(trail: &[u8], end: usize) -> Result<(u32, u32), Broken>
     requires { (2 ≤ end) × (end < length trail.now) }
     ensures { TwoBytes trail.now end result }
 {
-    let (p, _) = read_number(trail, end - 2, end - 1, GROUP)?;
-    let (value, _) = read_number(trail, end - 1, end, GROUP)?;
+    let mut r = TrailReader::new(trail, end - 2, end);
+    let p = r.next_number(GROUP)?;
+    let value = r.next_number(GROUP)?;
     Ok((p, value))
 }
 
@@ -155,7 +155,7 @@ pub fn read_short(trail: &[u8], used: usize) -> Result<Option<MarkedRecord>, Bro
     if l == SHORTEST {
         return Ok(Some(two_bytes(kind, trail, end)?));
     }
-    let (marks, _) = read_number(trail, end - 3, end - 3 + 1, MARKS)?;
+    let marks = TrailReader::new(trail, end - 3, end - 2).next_number(MARKS)?;
     if marks % 16 == 0 {
         return Ok(Some(wide_p(kind, marks, trail, end)?));
     }

@@ -21,7 +21,7 @@ use Rattle.reading.proofs.from_end.newest.Goals as goal
 -- The last byte in use is read as L, below 29.
 module _ (s : List ℕ) (used : ℕ) (known : (0 < used) × (used ≤ length s)) {old : List ℕ} (made : old ≡ slice (used - 1) used s) {r : Result ℕ Broken} (rest : List ℕ) {l : ℕ} (read : read_below 29 old ≡ read_of r rest) (is : r ≡ Ok l) where
   L : (get_or s (used - 1) 0 ≡ l) × (l < 29)
-  L = next_byte s (used - 1) used 29 (omega arith) (omega arith) (omega arith) made rest read is
+  L = let b = next_byte s (used - 1) used 29 (omega arith) (omega arith) (omega arith) made rest read is in (b.0, b.1)
 
   -- Where L is neither too small nor past the first byte, the newest record is what is read of the bytes before it.
   found : (main ports : ℕ) → 3 ≤ l → l ≤ used - 1 → {n : Result Newest Broken} → n ≡ leaving (used - 1 - l) (read_in_form true (2 ^ 21) (slice (used - 1 - l) (used - 1) s)) → newest_fitted main ports s used ≡ only_fitted main ports n
