@@ -103,15 +103,19 @@ pub stored_length : (words : List (ℕ × ℕ)) (main : List ℕ) → length (st
 stored_length [] main = refl
 stored_length (w ∷ words) main = stored_length words (set main w.0 w.1) ∙ length-set main w.0 w.1
 
+-- A refused import leaves main.
+pub refused_leaves : (refusal : ImportRefusal) (text main : List ℕ) → main_after (Err refusal) text main ≡ main
+refused_leaves refusal text main = refl
+
 -- Whatever an import answers, main's words are of 32 bits after it if they were before it.
 pub after_in_range : (answer : Result ℕ ImportRefusal) (text main : List ℕ) → in_range main → in_range (main_after answer text main)
 after_in_range (Ok count) text main p = stored_in_range main text p
-after_in_range (Err refusal) text main p = p
+after_in_range (Err refusal) text main p = rw (refused_leaves refusal text main) p
 
 -- And main is as long as it was.
 pub after_length : (answer : Result ℕ ImportRefusal) (text main : List ℕ) → length (main_after answer text main) ≡ length main
 after_length (Ok count) text main = stored_length (words_in (text_of (length main) 0 text)) main
-after_length (Err refusal) text main = refl
+after_length (Err refusal) text main = ap length (refused_leaves refusal text main)
 
 -- The same of the call.
 pub imported_in_range : {main text after : List ℕ} {r : Result ℕ ImportRefusal} → Imports main text r after → in_range main → in_range after

@@ -29,7 +29,7 @@ impl From<Broken> for MoveRefusal {
     }
 }
 
-// The whole input is judged before a byte of the output is written. The answer is the count of bytes written, which is the moved trail's count in use.
+// The whole input is judged before a byte of the output is written. A form is told by whether its records begin with a kind, as in the definitions. The answer is the count of bytes written, which is the moved trail's count in use.
 #[tactic(auto, using(crate::proofs::Exits::broken, crate::proofs::Exits::few, crate::proofs::Exits::short, crate::proofs::Exits::moves))]
 fn move_all(new: bool, s: &[u8], out: &mut [u8]) -> Result<usize, MoveRefusal>
     ensures { (result, out.new) ≡ move_of new s.now out.old }

@@ -14,7 +14,7 @@ const SHORT: u64 = 5;
 
 const GROUP: u64 = 128;
 
-// What a record marks beside the flags: nothing, A, X or Y alone, or any of A, X, Y and the word.
+// What a record is known to mark beside the flags: nothing, or A, X or Y alone. Any is said of a record whose marks have still to be asked.
 #[derive(Clone, Copy, Debug, PartialEq, Eq)]
 pub enum Marked {
     Nothing,

@@ -15,7 +15,7 @@ use crate::finish::{Next, Undone, finish_flags, finish_register, finish_word, is
 use instruction::{ClassTable, Fields};
 use machine::{MainAddress, Place, PortNumber};
 
-// Why there is no M: a bad address halts, and a word that is not fitted refuses the step.
+// Why there is no M: a bad address halts, and a word that is not fitted refuses the step. Whoever asks for M ends the step in these ways himself.
 #[derive(Clone, Copy, Debug, PartialEq, Eq)]
 pub enum NoOperand {
     Bad,
@@ -81,7 +81,8 @@ fn place_of(class: u8, at: u32) -> Place
     Place::Main(MainAddress(at))
 }
 
-// A result for a register: which one (0, 1 or 2 for A, X or Y), its value, and P, B and STOP after it.
+// A result for a register: which one (0, 1 or 2 for A, X or Y: its place among the sources, so that it is found without a test), its value, and P, B and
+// STOP after it.
 #[derive(Clone, Copy, Debug, PartialEq, Eq)]
 struct Delivery {
     to: u32,

@@ -38,7 +38,8 @@ impl TryFrom<u32> for Kind {
     }
 }
 
-// What a record holds: its kind, the marks, and the old values. What is not marked is 0.
+// What a record holds: its kind, the marks, and the old values. What is not marked is 0. The marks and the place stay the numbers that a record has and
+// that C is handed (its eight words), since both are made and read on the way of each step.
 #[derive(Clone, Copy, Debug, PartialEq, Eq)]
 pub struct OldValues {
     pub kind: Kind,

@@ -9,8 +9,8 @@ pub(crate) fn group(n: u32) -> u8
     (128 + n % 128) as u8
 }
 
-// Puts a number into the bytes of a record, and answers the place after it. It takes five bytes at most. (As a method of the record, which then holds
-// the place itself, it made every step a seventh longer.) No index is counted: what is left tells whether one more group follows.
+// Puts a number into the bytes of a record, and answers the place after it. It takes five bytes at most. The place is counted
+// by hand: as a method of the record, which then holds the place itself, it made every step a seventh longer.
 pub(crate) fn put_number(bytes: &mut [u8; 28], at: usize, n: u32) -> usize
     requires { (at + 5 ≤ 28) × (length bytes.old ≡ 28) }
     ensures { Put at (groups n) bytes.old bytes.new result }

@@ -56,7 +56,11 @@ fn run_and_tell(
     };
     match find(main.len(), ports.len(), trail, ran.used, place) {
         Ok(Some(hit)) => {
-            let new = word_now(main, ports, place);
+            // A record that holds the place was found, so it is fitted.
+            let new = viper::views::view(main, ports, place, 1)
+                .first()
+                .copied()
+                .unwrap_or(0);
             let after = After {
                 machine: ran.machine,
                 used: ran.used,
@@ -67,15 +71,6 @@ fn run_and_tell(
         Ok(None) => rt.write_all(b"never\n"),
         Err(_) => Ok(()),
     }
-}
-
-// The word at a place. (A record that holds it was found, so it is fitted.)
-fn word_now(main: &[u32], ports: &[u32], place: Place) -> u32 {
-    let word = match place {
-        Place::Main(a) => main.get(a.0 as usize),
-        Place::Port(n) => ports.get(n.0 as usize),
-    };
-    word.copied().unwrap_or(0)
 }
 
 // Takes so many operations back: then main is what it was when the oldest of them was done.
