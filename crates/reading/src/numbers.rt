@@ -7,7 +7,7 @@ ghost use Rattle.reading.specs.Finding.{number_of};
 use trail::Broken;
 
 // The number below `bound` that stands at `at` and ends before `end`, with the place after it. Called, and not put in line, it made a take-back a
-// fifth longer.
+// fifth longer. Each number has a bound of its own, so the bound is an argument, and that it is at most 2^32 a fact of the contract.
 #[inline(always)]
 pub fn read_number(bytes: &[u8], at: usize, end: usize, bound: u64) -> Result<(u32, usize), Broken>
     requires { (end ≤ length bytes.now) × (bound ≤ 2 ^ 32) }

@@ -1,6 +1,7 @@
 // The last phase, which alone writes: the record goes to the trail, and then the word to its store (document 01, "The trail").
 // A step changes at most one register or one word, and each kind has its finish. What a step changes comes to its finish in pieces: as one value
-// it went through memory and cost a third of the time (docs/DECISIONS.md, "The form of the code").
+// it went through memory and cost a third of the time (docs/DECISIONS.md, "The form of the code"). So the bounds of P and of the count stand in each
+// contract.
 ghost use Rattle.std.specs.Prelude.{◌≡◌, false, List, ℕ, ◌≤◌, ◌<◌, ◌^◌, length, set};
 ghost use Rattle.report.specs.AnnexA.{Mem};
 ghost use Rattle.report.specs.Parts.{fitted, word_at, with_word};

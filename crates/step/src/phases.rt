@@ -3,6 +3,7 @@
 // the phases ends in the finish that it needs.
 //
 // The machine is in pieces here: P and B, and the four sources A, X, Y and N, so that a register is found by its number. STOP is not set.
+// That the sources are four stands in the contracts: the length of a lent array is not known otherwise.
 ghost use Rattle.std.specs.Prelude.{◌≡◌, false, cond, ◌≤◌, ◌<◌, ◌^◌, eqb, length, get_or};
 ghost use Rattle.report.specs.Parts.{InRange};
 ghost use Rattle.machine.specs.Held.{ram, state, place_by};

@@ -80,7 +80,7 @@ impl<const N: usize> Text<N> {
     }
 }
 
-// The digit of a value below 16.
+// The digit of a value below 16. (No `TryFrom`: that it is below 16 is its callers' to show.)
 fn digit_of(value: usize) -> u8
     requires { value < 16 }
     ensures { result ≡ digit value }

@@ -39,7 +39,7 @@ impl TryFrom<u32> for Kind {
 }
 
 // What a record holds: its kind, the marks, and the old values. What is not marked is 0. The marks and the place stay the numbers that a record has and
-// that C is handed (its eight words), since both are made and read on the way of each step.
+// that C is handed (its eight words), since both are made and read on the way of each step; a mark is asked for by its weight, as the definition does.
 #[derive(Clone, Copy, Debug, PartialEq, Eq)]
 pub struct OldValues {
     pub kind: Kind,

@@ -28,7 +28,7 @@ fn flags(b: bool, stop: bool) -> u32
     16 * u32::from(b) + 32 * u32::from(stop)
 }
 
-// A value that is marked; 0 for one that is not.
+// A value that is marked; 0 for one that is not. (This and the three small functions after it are the definitions' own words, each with its contract.)
 fn value_if(marked: bool, v: u32) -> u32
     ensures { result ≡ cond marked v 0 }
 {
@@ -77,7 +77,8 @@ pub fn old_values(kind: Kind, old: Machine, new: Machine, word: Option<OldWord>)
     }
 }
 
-// Puts the bytes of a record, L last, and answers their count.
+// Puts the bytes of a record, L last, and answers their count. (That the array has 28 bytes stands in each contract: the length of a lent array is not
+// known otherwise.)
 fn fill(bytes: &mut [u8; 28], o: OldValues) -> usize
     requires { (Good (2 ^ 21) o) × (length (body o) ≤ 27) × (length bytes.old ≡ 28) }
     ensures { Put 0 (record_bytes o) bytes.old bytes.new result }

@@ -17,7 +17,7 @@ pub struct Sum {
     pub overflow: bool,
 }
 
-// What the ALU delivers: the word, the new B, and whether it stops the machine.
+// What the ALU delivers: the word, the new B, and whether it stops the machine. (The report has triples for both; their flags mean other things.)
 #[derive(Clone, Copy, Debug, PartialEq, Eq)]
 pub struct AluResult {
     pub value: u32,
