@@ -23,7 +23,7 @@ pub fn read_line(text: &[u8], width: usize) -> Option<u32>
     }
 }
 
-// How many words the text has for a main of `room` words. (The last line may be cut short, so the text is no row of equal parts.)
+// How many words the text has for a main of `room` words.
 fn judge(text: &[u8], room: usize) -> Result<usize, BadLine>
     ensures { result ≡ answer (routine_of room text.now) }
 {
