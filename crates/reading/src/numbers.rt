@@ -49,7 +49,8 @@ pub fn read_number(bytes: &[u8], at: usize, end: usize, bound: u64) -> Result<(u
     read_more(bytes, at + 1, end, b - 128, bound)
 }
 
-// The same, from its second group on; the first gave `first`.
+// The same, from its second group on; the first gave `first`. Called, it made taking back and seeking long records a quarter longer.
+#[inline(always)]
 fn read_more(
     bytes: &[u8],
     at: usize,
