@@ -4,6 +4,7 @@
 mod class;
 
 ghost use Rattle.std.specs.Prelude.{◌≡◌, ◌^◌, ◌<◌, slice_index};
+ghost use Rattle.instruction.specs.Sources.{register_of, address_of};
 
 pub use class::ClassTable;
 
@@ -22,7 +23,6 @@ pub struct Fields {
 
 impl Fields {
     ghost use Rattle.instruction.specs.Fields.{Fielded};
-    ghost use Rattle.instruction.specs.Sources.{register_of, address_of};
 
     // The fields of a word.
     pub fn of_word(w: u32) -> Fields
@@ -37,26 +37,40 @@ impl Fields {
         }
     }
 
-    // R by rsf (table 2). The sources are A, X, Y and N, which is P + 1, in the order of rsf.
-    #[tactic(auto, using(crate::proofs::Sources::register_taken))]
+    // R by rsf.
     pub fn register(self, sources: &[u32; 4]) -> u32
         requires { slice_index sources.now 3 < 2 ^ 20 }
         ensures { result ≡ register_of self.rsf sources.now }
     {
-        let k = self.rsf as usize;
-        sources[k]
+        register(self.rsf, sources)
     }
 
-    // The address by msf (table 3), all 32 bits of it: 2 adds X, the second of the sources, and 3 adds Y, the third.
-    #[tactic(auto, using(crate::proofs::Sources::constant_taken, crate::proofs::Sources::index_taken))]
+    // The address by msf.
     pub fn address(self, sources: &[u32; 4]) -> u32
         requires { (slice_index sources.now 1 < 2 ^ 32) × (slice_index sources.now 2 < 2 ^ 32) }
         ensures { result ≡ address_of self.msf self.addr sources.now }
     {
-        if self.msf < 2 {
-            return self.addr;
-        }
-        let k = (self.msf - 1) as usize;
-        self.addr.wrapping_add(sources[k])
+        address(self.msf, self.addr, sources)
     }
+}
+
+// R by rsf (table 2). The sources are A, X, Y and N, which is P + 1, in the order of rsf.
+pub fn register(rsf: u32, sources: &[u32; 4]) -> u32
+    requires { (rsf < 4) × (slice_index sources.now 3 < 2 ^ 20) }
+    ensures { result ≡ register_of rsf sources.now }
+{
+    let k = rsf as usize;
+    sources[k]
+}
+
+// The address by msf (table 3), all 32 bits of it: 2 adds X, the second of the sources, and 3 adds Y, the third.
+pub fn address(msf: u32, addr: u32, sources: &[u32; 4]) -> u32
+    requires { (msf < 4) × (addr < 2 ^ 20) × (slice_index sources.now 1 < 2 ^ 32) × (slice_index sources.now 2 < 2 ^ 32) }
+    ensures { result ≡ address_of msf addr sources.now }
+{
+    if msf < 2 {
+        return addr;
+    }
+    let k = (msf - 1) as usize;
+    addr.wrapping_add(sources[k])
 }
