@@ -121,7 +121,6 @@ pub fn compare(fsf: u32, r: u32, m: u32, b: bool) -> bool
 }
 
 // One place right, with the sign copied.
-#[tactic(auto, using(crate::proofs::Casts::shift_is))]
 pub fn right_arith(r: u32) -> u32
     ensures { result ≡ RIGHTARITH r }
 {
@@ -146,7 +145,6 @@ pub fn left(r: u32, b: bool) -> u32
 }
 
 // Any of the top twelve bits is set, so the word is no address and no P.
-#[tactic(auto, using(report::proofs::Readings::invalid_is))]
 pub fn invalid(v: u32) -> bool
     ensures { result ≡ INVALID v }
 {
