@@ -24,14 +24,15 @@ pub fn is_fitted(main: &[u32], ports: &[u32], place: Place, n: usize) -> bool
     }
 }
 
-// The stretch of n words from an address, or the empty stretch.
+// The stretch of n words from an address, or the empty stretch at the store's end: a part of the store either way.
 fn part_of(store: &[u32], address: u32, n: usize) -> &[u32]
     ensures { result.now ≡ stretch store.now address n }
 {
     let start = address as usize;
+    let empty = &store[store.len()..];
     match start.checked_add(n) {
-        Some(end) => store.get(start..end).unwrap_or(&[]),
-        None => &[],
+        Some(end) => store.get(start..end).unwrap_or(empty),
+        None => empty,
     }
 }
 
