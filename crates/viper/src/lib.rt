@@ -1,6 +1,8 @@
 // The bench: the calls step, run, reset, force, set a word, take back and view (document 01).
-// The machine goes in and comes back by value; the two stores and the trail are lent, each by itself, as the calls for C lend them: reset and
-// force are lent no store, and take back only reads the trail. No call has a `requires`: bad input is refused, and a refused call changes nothing.
+// The machine and the count in use go in by value, and a call that was not refused hands back both as they are after it; a refused one hands back
+// its refusal alone, and the caller's own stay as they were. The two stores and the trail are lent, each by itself, as the calls for C lend them:
+// reset and force are lent no store, and take back only reads the trail. No call has a `requires`: bad input is refused, and a refused call changes
+// nothing.
 #![tactic(auto)]
 
 ghost use Rattle.std.specs.Prelude.{◌≡◌};
