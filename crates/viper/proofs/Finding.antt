@@ -16,7 +16,7 @@ use Rattle.trail.specs.declared.OldValues.{OldValues}
 use Rattle.trail.specs.declared.Newest.{Newest}
 use Rattle.trail.specs.declared.Broken.{Broken}
 use Rattle.trail.specs.Newest.{read_back}
-use Rattle.reading.specs.Finding.{MarksAlone, Holds, Says}
+use Rattle.reading.specs.Finding.{MarksAlone, Holds, Says, short_record}
 use Rattle.reading.specs.declared.short.MarkedRecord.{MarkedRecord}
 use Rattle.viper.specs.declared.Refusal.TheVariants.{BrokenRecord}
 use Rattle.std.specs.Prelude.{Result, Ok, Err, Option, Some}
@@ -68,6 +68,20 @@ module _ (m : Machine) (main ports trail : List ℕ) (used : ℕ) (a : Answer) (
         restores (newest_of (bench m main ports trail used)) s.values s.left s.marked (ram main ports) refl h.holds
         (none_restored (ram main ports) s.values (ne_eqb (s.values.marks / 8 % 2) 1 (no_word s.marked s.values.marks h.marks)))
         (marks_so s.marked s.values.marks h.marks)
+
+    -- by what it marks: nothing, A, X or Y
+    module _ (o : OldValues) (n : ℕ) where
+      pub nothing_marked : r ≡ Ok (Some (short_record marked.Nothing o n)) → Restores (ram main ports) (bench m main ports trail used) o n marked.Nothing
+      nothing_marked = short_restores (short_record marked.Nothing o n)
+
+      pub a_marked : r ≡ Ok (Some (short_record marked.A o n)) → Restores (ram main ports) (bench m main ports trail used) o n marked.A
+      a_marked = short_restores (short_record marked.A o n)
+
+      pub x_marked : r ≡ Ok (Some (short_record marked.X o n)) → Restores (ram main ports) (bench m main ports trail used) o n marked.X
+      x_marked = short_restores (short_record marked.X o n)
+
+      pub y_marked : r ≡ Ok (Some (short_record marked.Y o n)) → Restores (ram main ports) (bench m main ports trail used) o n marked.Y
+      y_marked = short_restores (short_record marked.Y o n)
 
     pub short_broken : {e : Broken} → r ≡ Err e → record { answered = Err BrokenRecord; bench = bench m main ports trail used } ≡ back_outcome (bench m main ports trail used)
     short_broken s = back_broken m main ports trail used a k d some_used (newest_of (bench m main ports trail used)) refl (rw s at said)
