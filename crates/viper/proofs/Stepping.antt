@@ -13,7 +13,7 @@ use lib.ListN.{length, length-set}
 use borrow.Author.Tests.{not-false, le-ltb, lt-leb, ltb-false}
 use Rattle.report.specs.AnnexA.{Mem}
 use Rattle.report.specs.Section3.{State, NEXT}
-use Rattle.report.specs.Parts.{Where, with_word, fitted, Part, stopped, halts, compares, writes, skips, computes, part, word, after_by, writes_by, written, reads, InRange}
+use Rattle.report.specs.Parts.{Where, with_word, fitted, Part, stopped, halts, compares, writes, skips, computes, part, word, of, output, after_by, place_by, writes_by, written, reads, InRange}
 use Rattle.report.proofs.Stores.{either_false, placed_stores}
 use Rattle.report.proofs.Order.{next_by_parts}
 use Rattle.report.proofs.RangeKept.{next_in_range}
@@ -71,6 +71,19 @@ after_ram compares w (r, p, a, x, y, b, t) h = refl
 after_ram writes w (r, p, a, x, y, b, t) h = put_again r _ _ (not-false _ h)
 after_ram skips w (r, p, a, x, y, b, t) h = refl
 after_ram computes w (r, p, a, x, y, b, t) h = sym (placed_stores _ _ r p a x y _)
+
+low_place : (w x y : ℕ) (q : Where) → place_by (of output w) w x y ≡ q → q.1 < 2 ^ 20
+low_place w x y q e = rw (← e) (omega arith)
+
+-- the address of the word written has twenty bits
+written_low : (k : Part) (w x y : ℕ) (q : Where) → writes_by k w x y ≡ some q → q.1 < 2 ^ 20
+unfolding writes_by
+written_low stopped w x y q e = let z : ◌≡◌ {A = ℕ} 0 1 = cc in absurd (omega arith)
+written_low halts w x y q e = let z : ◌≡◌ {A = ℕ} 0 1 = cc in absurd (omega arith)
+written_low compares w x y q e = let z : ◌≡◌ {A = ℕ} 0 1 = cc in absurd (omega arith)
+written_low writes w x y q e = low_place w x y q (cc)
+written_low skips w x y q e = let z : ◌≡◌ {A = ℕ} 0 1 = cc in absurd (omega arith)
+written_low computes w x y q e = let z : ◌≡◌ {A = ℕ} 0 1 = cc in absurd (omega arith)
 
 -- ---- a change from one state to another, once finished: its record has no room, or it stands in the trail
 
@@ -141,6 +154,14 @@ module _ (m : Machine) (main ports trail : List ℕ) (used : ℕ) (l : Lawful m.
     no_lack =
         let two = either_false (lacks (ram main ports) (some (false, m.p))) (lacks (ram main ports) (reads s) || lacks (ram main ports) (written s)) fits in
         (either_false (lacks (ram main ports) (reads s)) (lacks (ram main ports) (written s)) two.1).1
+
+    -- and its address has twenty bits, so a record of the change can name it
+    pub addressed : Addressed (ram main ports) c.written
+    addressed = rw change_is (go (written s) refl no_lack)
+      where
+        go : (q : Option Where) → written s ≡ q → lacks (ram main ports) q ≡ false → Addressed (ram main ports) (writing q (NEXT s).0)
+        go none h k = tt
+        go (some q) h k = rw (where_place q) (record { has = not-false _ k; low = written_low (part s) (word s) s.3 s.4 q h })
 
     -- the stores that the change leaves are NEXT's
     stores_are : rewritten (ram main ports) (writing (written s) (NEXT s).0) ≡ (NEXT s).0
@@ -223,6 +244,9 @@ turn n b a h e = going_on b.state.6 b _ h ∙ ap (λ (x : Answer). by_answer x b
 abbrev pub Along : ℕ → Bench → ℕ → Bench → Type 0
 Along budget b₀ k b = over_and_over budget b₀ ≡ after_steps k (over_and_over (budget - k) b)
 
+pub along_start : (budget : ℕ) (b : Bench) → Along budget b 0 b
+along_start budget b = let e : budget - 0 ≡ budget = omega arith in rw e (sym (ap (λ (n : ℕ). record { bench = (over_and_over budget b).bench; steps = n; ended = (over_and_over budget b).ended }) (omega arith)))
+
 module _ (budget : ℕ) (b₀ : Bench) (k : ℕ) (b : Bench) (a : Along budget b₀ k b) where
   finally : (e : Ending) → over_and_over (budget - k) b ≡ ends b e → record { bench = b; steps = k; ended = e } ≡ over_and_over budget b₀
   finally e h = sym (a ∙ (rw h (ap (λ (n : ℕ). record { bench = b; steps = n; ended = e }) (omega arith))))
@@ -256,6 +280,19 @@ pub record Going (main₀ ports₀ trail₀ : List ℕ) (m₀ : Machine) (used b
   pub trail_size : length trail ≡ length trail₀
   pub few : steps ≤ budget
   pub along : Along budget (bench m₀ main₀ ports₀ trail₀ used) steps (bench m main ports trail count)
+
+pub going_start : (main ports trail : List ℕ) (m : Machine) (used budget : ℕ) → Lawful m.p (length main) (length ports) (length trail) used → InRange (state m (ram main ports))
+    → Going main ports trail m used budget main ports trail m used 0
+going_start main ports trail m used budget l g =
+    record {
+      lawful = l;
+      range = g;
+      main_size = refl;
+      ports_size = refl;
+      trail_size = refl;
+      few = omega arith;
+      along = along_start budget (bench m main ports trail used);
+    }
 
 -- writing a word changes no length
 pub put_size : (r : Mem) (q : Where) (v : ℕ) → (length (with_word r q v).main ≡ length r.main) × (length (with_word r q v).ports ≡ length r.ports)
