@@ -1,4 +1,4 @@
--- The old values of a record put back in regs are those of the machine restored.
+-- The old values of a record put back in regs are those of the machine restored, and what is known of its marks goes with what it is said to mark.
 -- Assumes nothing.
 use Prim.Native.Nat.{ℕ}
 use mathlib.Core.Path.{◌≡◌, refl}
@@ -9,8 +9,13 @@ use Rattle.report.specs.AnnexA.{Mem}
 use Rattle.machine.specs.Held.{state, machine_of}
 use Rattle.trail.specs.Records.{restored, marked}
 use Rattle.trail.specs.declared.OldValues.{OldValues}
+use Rattle.reading.specs.declared.short.Marked.{Marked}
+use Rattle.viper.specs.Finding.{Marks}
 use Rattle.viper_c.specs.Surface.{one_or_zero, machine_of_regs, regs_of_machine}
 use Rattle.viper_c.specs.Restoring.{put_if, flags_put, all_put}
+
+pub known : {k t : Marked} (marks : ℕ) → k ≡ t → Marks k marks → Marks t marks
+known marks e h = rw e at h
 
 pub all_restored : (o : OldValues) (r : Mem) (regs : List ℕ) → all_put o regs ≡ regs_of_machine (machine_of (restored o (state (machine_of_regs regs) r)))
 unfolding restored
