@@ -149,7 +149,8 @@ module _ (main out : List ℕ) where
   pub export_unique : (r r' : Result ℕ ExportRefusal) (t t' : List ℕ) → Exports main out r t → Exports main out r' t' → (r ≡ r') × (t ≡ t')
   export_unique r r' t t' h k = hex.export_unique h k
 
--- An import, of any main and text: the answer, which has the count in use, and every word of main.
+-- An import, of any main and text: the answer and every word of main. The count in use follows: an accepted import answers the one to write there, and
+-- of a refused one it stays as it was.
 module _ (main text : List ℕ) where
   pub import_unique : (r r' : Result ℕ ImportRefusal) (m m' : List ℕ) → Imports main text r m → Imports main text r' m' → (r ≡ r') × (m ≡ m')
   import_unique r r' m m' h k = hex.import_unique h k
