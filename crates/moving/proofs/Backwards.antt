@@ -6,10 +6,9 @@ use mathlib.Core.Bool.{Bool, true, false, not}
 use mathlib.Core.Option.{some}
 use mathlib.Core.List.{List, [], ◌∷◌, ◌++◌, append_assoc}
 use native.Mathlib.Omega.{arith}
-use lib.ListN.{length, get_or, take, drop, set, length-append, length-set, length-drop, length-take}
-use lib.Seq.{slice, take-add, drop_at, drop-drop, drop-cons, drop-set-lt, get_or-set_same, length-slice, length-take-le}
+use lib.ListN.{length, get_or, take, drop, set, length-append, length-set}
+use lib.Seq.{slice, paste, paste-zero, take-add, take-length, drop_at, drop-drop, drop-cons, drop-set-lt, get_or-set_same, length-slice, length-take-le}
 use borrow.Author.Tests.{le-ltb}
-use borrow.Rule.Slice.PartMut.{put_mid}
 use Rattle.report.specs.AnnexA.{BV}
 use Rattle.trail.specs.Numbers.{groups}
 use Rattle.trail.specs.declared.OldValues.{OldValues}
@@ -17,6 +16,7 @@ use Rattle.trail.specs.Records.{kind_number, from_marks, body_in, record_in, Goo
 use Rattle.trail.proofs.RecordsReadBack.{read_only_in}
 use Rattle.trail.proofs.NewestReadsBack.{newest_found}
 use Rattle.trail.proofs.NumbersReadBack.{groups_one}
+use Rattle.trail.proofs.Adding.{Copying}
 use Rattle.std.specs.Prelude.{Ok}
 use Rattle.moving.specs.Rows.{row, records_of}
 use Rattle.moving.specs.Moving.{moved_length, moved_record, PutBefore, Moves, move}
@@ -43,16 +43,19 @@ before_one b to at x e h =
       size = length-set b at x;
     }
 
--- Bytes written over a part of the output.
-before_part : (b : List ℕ) (to at : ℕ) (t : List ℕ) → at + length t ≡ to → to ≤ length b → PutBefore to t b (put_mid at (to - at) b t) at
-before_part b to at t e h =
-    let k : at + (to - at) ≡ to = omega arith in
+-- Bytes copied, one after the other, over a part of the output.
+before_copy : (b : List ℕ) (to at : ℕ) (t : List ℕ) {o : List ℕ} {i : ℕ} → at + length t ≡ to → to ≤ length b → Copying b at t (length t) o i → length t ≤ i → PutBefore to t b o at
+before_copy b to at t {o} {i} e h g f =
+    let j : i ≡ length t = omega (arith, g.some) in
+    let w : o ≡ paste b at t (length t) = g.whole ∙ ap (paste b at t) j in
     record {
       place = e;
       bytes =
-          drop_at (take at b) (t ++ drop (to - at) (drop at b)) at (length-take-le at b (omega arith))
-          ∙ ap (λ (r : List ℕ). t ++ r) (drop-drop (to - at) at b ∙ ap (λ (n : ℕ). drop n b) k);
-      size = simp (length-append, length-take, length-drop) (omega arith);
+          ap (drop at) w
+          ∙ ap (drop at) (append_assoc (take at b) (take (length t) t) (drop (at + length t) b))
+          ∙ drop_at (take at b) (take (length t) t ++ drop (at + length t) b) at (length-take-le at b (omega arith))
+          ∙ rw (take-length t, e);
+      size = g.size;
     }
 
 -- The bytes from a place on, so many.
@@ -79,65 +82,76 @@ moved_is false s start L e h p g =
 
 -- ---- the function that puts one record
 
--- The bytes of a record from its start on, but for the first ones, `skipped`.
-abbrev kept : List ℕ → ℕ → ℕ → ℕ → List ℕ
-kept s start l skipped = take (start + l - (start + skipped)) (drop (start + skipped) s)
+-- The bytes of a record that are kept.
+abbrev kept : List ℕ → ℕ → ℕ → List ℕ
+kept s from end = take (end - from) (drop from s)
 
-kept_is : (s : List ℕ) (start l skipped : ℕ) → start + l ≤ length s → skipped ≤ l → kept s start l skipped ≡ slice (start + skipped) (start + l) s
-kept_is s start l skipped h g =
-    let n : start + l - (start + skipped) ≡ l - skipped = omega arith in
-    let end : start + skipped + (l - skipped) ≡ start + l = omega arith in
-    rw n (taken s (start + skipped) (l - skipped) (omega arith) ∙ ap (λ (e : ℕ). slice (start + skipped) e s) end)
+kept_is : (s : List ℕ) (from end : ℕ) → from ≤ end → end ≤ length s → kept s from end ≡ slice from end s
+kept_is s from end h g = let e : from + (end - from) ≡ end = omega arith in taken s from (end - from) (omega arith) ∙ ap (λ (n : ℕ). slice from n s) e
 
--- What is kept of it and the count L stand right before the output's place `to`.
-kept_put : (out : List ℕ) (to at L : ℕ) (t : List ℕ) → at + length t + 1 ≡ to → to ≤ length out → PutBefore to (t ++ (L ∷ [])) out (put_mid at (to - 1 - at) (set out (to - 1) L) t) at
-kept_put out to at L t e h =
-    let first = before_one out to (to - 1) L (omega arith) h in
-    before_then first (before_part (set out (to - 1) L) (to - 1) at t (omega arith) (omega (arith, first.size)))
+-- The count of what is put before L, and where it begins; the output once L and the first bytes that are kept are put.
+abbrev L : List ℕ → ℕ → ℕ → ℕ → ℕ
+L s from end lead = length (kept s from end) + lead
 
--- The count of what is put before L, and where it begins; the output once it is put.
-abbrev L : List ℕ → ℕ → ℕ → ℕ → ℕ → ℕ
-L s start l lead skipped = length (kept s start l skipped) + lead
+abbrev begin : List ℕ → ℕ → ℕ → ℕ → ℕ → ℕ
+begin s from end to lead = to - 1 - L s from end lead
 
-abbrev begin : List ℕ → ℕ → ℕ → ℕ → ℕ → ℕ → ℕ
-begin s start l to lead skipped = to - 1 - L s start l lead skipped
+abbrev Copied : List ℕ → List ℕ → ℕ → ℕ → ℕ → ℕ → List ℕ → ℕ → Type 0
+Copied out s from end to lead o i =
+    let t = kept s from end in
+    Copying (set out (to - 1) (L s from end lead)) (begin s from end to lead + lead) t (length t) o i
 
-abbrev copied : List ℕ → List ℕ → ℕ → ℕ → ℕ → ℕ → ℕ → List ℕ → List ℕ
-copied out s start l to lead skipped t =
-    let at = begin s start l to lead skipped + lead in
-    put_mid at (to - 1 - at) (set out (to - 1) (L s start l lead skipped)) t
+-- A record in the other form has room before `to`.
+pub has_room : (new : Bool) (l to lead skipped : ℕ) → lead ≡ BV new → skipped ≡ BV (not new) → 2 + BV (not new) ≤ l → moved_length new (l + 1) 1 ≤ to → l + lead + 1 ≤ to + skipped
+has_room true l to lead skipped a b low h = omega arith
+has_room false l to lead skipped a b low h = omega arith
 
-module _ (out s : List ℕ) (start l to lead skipped : ℕ) (t : List ℕ) (inside : start + l ≤ length s) (room : to ≤ length out) where
-  pub puts_new : (new : Bool) → new ≡ true → lead ≡ BV new → skipped ≡ BV (not new) → 2 + BV (not new) ≤ l → moved_length new (l + 1) 1 ≤ to → t ≡ kept s start l skipped
-      → PutBefore to (moved_record new s start l) out (set (copied out s start l to lead skipped t) (begin s start l to lead skipped) 0) (begin s start l to lead skipped)
-  puts_new true i a b low h e =
-      let at = begin s start l to lead skipped in
-      let n = L s start l lead skipped in
-      let o = copied out s start l to lead skipped t in
-      let k = kept_is s start l skipped inside (omega arith) in
-      let bytes : t ≡ slice start (start + l) s = e ∙ k ∙ ap (λ (n : ℕ). slice n (start + l) s) (omega arith) in
-      let long : length (kept s start l skipped) ≡ l = omega (arith, ap length k, length-slice (start + skipped) (start + l) s inside) in
-      let p = kept_put out to (at + lead) n t (omega (arith, ap length e, long)) room in
-      let count : n ≡ l + 1 = omega (arith, long) in
+module _ (out s : List ℕ) (from end to lead : ℕ) (order : from ≤ end) (inside : end ≤ length s) (room : to ≤ length out) where
+  long : length (kept s from end) ≡ end - from
+  long = omega (arith, ap length (kept_is s from end order inside), length-slice from end s inside)
+
+  -- Before the first byte is copied, whatever stands in the place of L.
+  pub copy_starts : (x : ℕ) → end + lead + 1 ≤ to + from
+      → let o = set out (to - 1) x in Copying o (begin s from end to lead + lead) (kept s from end) (length (kept s from end)) o 0
+  copy_starts x h =
+      record {
+        some = omega arith;
+        held = omega arith;
+        room = omega (arith, long, h, length-set out (to - 1) x);
+        size = refl;
+        whole = paste-zero (set out (to - 1) x) (begin s from end to lead + lead) (kept s from end);
+      }
+
+  -- What is kept and the count L stand right before the output's place `to`.
+  kept_put : {o : List ℕ} {i : ℕ} → Copied out s from end to lead o i → length (kept s from end) ≤ i → end + lead + 1 ≤ to + from
+      → PutBefore to (slice from end s ++ (L s from end lead ∷ [])) out o (begin s from end to lead + lead)
+  kept_put {o} {i} g f h =
+      let n = L s from end lead in
+      let at = begin s from end to lead + lead in
+      let first = before_one out to (to - 1) n (omega arith) room in
+      let p = before_copy (set out (to - 1) n) (to - 1) at (kept s from end) (omega (arith, long)) (omega (arith, first.size)) g f in
+      subst (λ (r : List ℕ). PutBefore to (r ++ (n ∷ [])) out o at) (kept_is s from end order inside) (before_then first p)
+
+  pub puts_new : {o : List ℕ} {i : ℕ} → Copied out s from end to lead o i → length (kept s from end) ≤ i → (new : Bool) (start l : ℕ) → new ≡ true → lead ≡ BV new → from ≡ start → end ≡ start + l
+      → end + lead + 1 ≤ to + from → PutBefore to (moved_record new s start l) out (set o (begin s from end to lead) 0) (begin s from end to lead)
+  puts_new {o} {i} g f true start l _ a b e h =
+      let at = begin s from end to lead in
+      let p = kept_put g f h in
+      let count : L s from end lead ≡ l + 1 = omega (arith, long) in
       let last = before_one o (at + lead) at 0 (omega arith) (omega (arith, p.size, long)) in
-      subst (λ (r : List ℕ). PutBefore to r out (set o at 0) at) (ap (λ (r : List ℕ). 0 ∷ (r ++ (n ∷ []))) bytes ∙ ap (λ (m : ℕ). 0 ∷ (slice start (start + l) s ++ (m ∷ []))) count) (before_then p last)
-  puts_new false i a b low h e = absurd (cc)
+      let r : slice from end s ++ (L s from end lead ∷ []) ≡ slice start (start + l) s ++ ((l + 1) ∷ []) = rw (count, b, e) in
+      subst (λ (r : List ℕ). PutBefore to (0 ∷ r) out (set o at 0) at) r (before_then p last)
+  puts_new g f false start l n a b e h = absurd (cc)
 
-  pub puts_old : (new : Bool) → new ≡ false → lead ≡ BV new → skipped ≡ BV (not new) → 2 + BV (not new) ≤ l → moved_length new (l + 1) 1 ≤ to → t ≡ kept s start l skipped
-      → PutBefore to (moved_record new s start l) out (copied out s start l to lead skipped t) (begin s start l to lead skipped)
-  puts_old true i a b low h e = absurd (cc)
-  puts_old false i a b low h e =
-      let at = begin s start l to lead skipped in
-      let n = L s start l lead skipped in
-      let o = copied out s start l to lead skipped t in
-      let k = kept_is s start l skipped inside (omega arith) in
-      let bytes : t ≡ slice (start + 1) (start + l) s = e ∙ k ∙ ap (λ (m : ℕ). slice (start + m) (start + l) s) b in
-      let long : length (kept s start l skipped) ≡ l - 1 = omega (arith, ap length k, length-slice (start + skipped) (start + l) s inside) in
-      let p = kept_put out to (at + lead) n t (omega (arith, ap length e, long)) room in
-      let count : n ≡ l - 1 = omega (arith, long) in
+  pub puts_old : {o : List ℕ} {i : ℕ} → Copied out s from end to lead o i → length (kept s from end) ≤ i → (new : Bool) (start l : ℕ) → new ≡ false → lead ≡ BV new → from ≡ start + 1
+      → end ≡ start + l → end + lead + 1 ≤ to + from → PutBefore to (moved_record new s start l) out o (begin s from end to lead)
+  puts_old g f true start l n a b e h = absurd (cc)
+  puts_old {o} {i} g f false start l _ a b e h =
+      let at = begin s from end to lead in
+      let count : L s from end lead ≡ l - 1 = omega (arith, long) in
       let place : at + lead ≡ at = omega arith in
-      subst (λ (m : ℕ). PutBefore to (moved_record false s start l) out o m) place
-      (subst (λ (r : List ℕ). PutBefore to r out o (at + lead)) (ap (λ (r : List ℕ). r ++ (n ∷ [])) bytes ∙ ap (λ (m : ℕ). slice (start + 1) (start + l) s ++ (m ∷ [])) count) p)
+      let r : slice from end s ++ (L s from end lead ∷ []) ≡ slice (start + 1) (start + l) s ++ ((l - 1) ∷ []) = rw (count, b, e) in
+      subst (λ (m : ℕ). PutBefore to (moved_record false s start l) out o m) place (subst (λ (r : List ℕ). PutBefore to r out o (at + lead)) r (kept_put g f h))
 
 -- ---- the loop over all records
 

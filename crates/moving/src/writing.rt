@@ -16,7 +16,10 @@ fn put_record(new: bool, s: &[u8], start: usize, l: usize, out: &mut [u8], to: u
     let n = kept.len() + lead;
     let at = to - 1 - n;
     out[to - 1] = n as u8;
-    out[at + lead..to - 1].copy_from_slice(kept);
+    // Byte by byte: `copy_from_slice` is a call of memmove for a few bytes, and a name that an archive for C would need from outside.
+    for (i, &byte) in kept.iter().enumerate() {
+        out[at + lead + i] = byte;
+    }
     if new {
         out[at] = 0;
     }
