@@ -21,8 +21,8 @@ pub(crate) fn kind_bytes(kinds: bool) -> usize
     usize::from(kinds)
 }
 
-// Where the newest record of the first `used` bytes begins, in either form. `reading::newest` has these tests for the new form alone: it is on the way of a
-// take back, and keeps its bounds as constants (docs/DECISIONS.md, "Speed").
+// Where the newest record of the first `used` bytes begins. These tests on L are for either form; `reading::newest`, which stands on the way of a take back, has
+// them for the new form alone.
 fn newest_start(kinds: bool, s: &[u8], used: usize) -> Result<usize, Broken>
     requires { (0 < used) × (used ≤ length s.now) }
     ensures { result ≡ start_of (newest_in kinds (2 ^ 21) s.now used) }
