@@ -70,6 +70,11 @@ read_last : (s : List ℕ) (end : ℕ) → end ≤ length s → (k next : ℕ) �
 read_last s end fits k next h l =
     rw (slice-cons next end s 0 h fits, read_one k (get_or s next 0) (slice (suc next) end s) l, add-one)
 
+-- A last group of 0, or a number that is not below the bound.
+last_broken : (end bound low n : ℕ) (rest : List ℕ) → (0 < n → bound ≤ low + 128 * n) → read_broken ≡ number_of end (below bound (over low (got n rest)))
+last_broken end bound low zero rest q = refl
+last_broken end bound low (suc n) rest q = rw (ne_eqb (suc n) 0 (omega arith), le-ltb (low + 128 * suc n) bound (q (omega arith)))
+
 -- ---- the first groups
 
 module _ (s : List ℕ) (at end bound : ℕ) (fits : end ≤ length s) where
@@ -86,6 +91,16 @@ module _ (s : List ℕ) (at end bound : ℕ) (fits : end ≤ length s) where
       let place : end - length r ≡ at + 2 = place_left s (at + 1 + 1) end (omega arith) fits ∙ omega arith in
       let two : number_of end (below bound (over m (got n r))) ≡ read_up_to (m + 128 * n) (at + 2) = rw (ne_eqb n 0 (omega arith), lt-ltb (m + 128 * n) bound q, place) in
       sym two
+      ∙ ap (λ (x : Read). number_of end (below bound (over m x))) (sym (read_last s end fits 3 (at + 1) h c))
+      ∙ more_groups (omega arith) l b
+
+  -- The second group is the last, and it is 0 or the number is not below the bound.
+  pub two_broken : at + 1 < end → 128 ≤ get_or s at 0 → get_or s at 0 < 256 → get_or s (at + 1) 0 < 128
+      → (0 < get_or s (at + 1) 0 → bound ≤ get_or s at 0 - 128 + 128 * get_or s (at + 1) 0)
+      → read_broken ≡ number_of end (read_below bound (slice at end s))
+  two_broken h l b c q =
+      let m = get_or s at 0 - 128 in
+      last_broken end bound m (get_or s (at + 1) 0) (slice (at + 1 + 1) end s) q
       ∙ ap (λ (x : Read). number_of end (below bound (over m x))) (sym (read_last s end fits 3 (at + 1) h c))
       ∙ more_groups (omega arith) l b
 

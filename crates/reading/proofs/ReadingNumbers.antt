@@ -48,6 +48,10 @@ kind_unread n b e = go (ltb n 5) refl e
 
 -- ---- one number
 
+pub is_broken : (end : ℕ) (r : Read) → read_broken ≡ number_of end r → r ≡ broken
+is_broken end broken e = refl
+is_broken end (got n rest) e = absurd (cc)
+
 same_number : {n next m k : ℕ} → read_up_to n next ≡ read_up_to m k → (n ≡ m) × (next ≡ k)
 same_number {n} {next} {m} {k} e =
     let p : ◌≡◌ {A = ℕ × ℕ} (n, next) (m, k) = cc in
