@@ -1,18 +1,19 @@
 -- What a number that was read says of its bytes.
 -- Assumes nothing.
-use Prim.Native.Nat.{ℕ, suc, ◌+◌, ◌-◌, ◌<◌, ◌≤◌}
+use Prim.Native.Nat.{ℕ, suc, ◌+◌, ◌-◌, ◌^◌, ◌<◌, ◌≤◌}
 use mathlib.Core.Path.{◌≡◌, refl, ap, sym, ◌∙◌}
 use mathlib.Core.Bool.{Bool, true, false, cond}
 use mathlib.Core.List.{List, [], ◌∷◌}
 use native.Mathlib.Omega.{arith}
-use lib.Dec.{ltb}
+use lib.Dec.{ltb, eqb}
 use lib.ListN.{length, get_or, take, length-append}
 use lib.Seq.{slice, slice-cons, length-slice, drop_at, drop-drop}
-use borrow.Author.Tests.{ltb-true, ltb-false, le-ltb}
+use borrow.Author.Tests.{ltb-true, ltb-false, le-ltb, eqb-true}
 use Rattle.std.specs.Prelude.{Result, Ok, Err, IsErr}
 use Rattle.trail.specs.declared.Broken.{Broken}
 use Rattle.trail.specs.declared.Kind.{Kind}
-use Rattle.trail.specs.Records.{kind_of_number, kind_read}
+use Rattle.trail.specs.Records.{marked as is_marked, kind_of_number, kind_read}
+use Rattle.trail.specs.Newest.{leaving, read_back, read_in_form}
 use Rattle.trail.specs.Numbers.{Read, got, broken, bytes_if, read_in, read_below, read_if}
 use Rattle.reading.specs.Finding.{Number, number_of, read_broken, read_of, read_up_to}
 use Rattle.trail.proofs.NumbersReadBack.{read_if_only}
@@ -137,3 +138,15 @@ module _ (s : List ℕ) (at end bound : ℕ) (low : at < end) (fits : end ≤ le
       go : (t : Bool) → ltb (get_or s at 0) bound ≡ t → broken ≡ cond t (got (get_or s at 0) (slice (at + 1) end s)) broken → bound ≤ get_or s at 0
       go true g q = absurd (cc)
       go false g q = ltb-false (get_or s at 0) bound g
+
+-- ---- a record
+
+-- Its numbers are read one after the other, and no byte is left.
+pub whole : (kinds : Bool) {start : ℕ} {s t s₀ s₁ s₂ s₃ s₄ s₅ s₆ s₇ : List ℕ} {n m p a x y place value : ℕ} {kind : Kind} {none_left : Bool} → t ≡ s → read_if kinds 5 t ≡ got n s₀ → Ok kind ≡ kind_read n
+    → read_below 64 s₀ ≡ got m s₁ → read_below (2 ^ 20) s₁ ≡ got p s₂ → read_if (is_marked 1 m) (2 ^ 32) s₂ ≡ got a s₃ → read_if (is_marked 2 m) (2 ^ 32) s₃ ≡ got x s₄ → read_if (is_marked 4 m) (2 ^ 32) s₄ ≡ got y s₅
+    → read_if (is_marked 8 m) (2 ^ 21) s₅ ≡ got place s₆ → read_if (is_marked 8 m) (2 ^ 32) s₆ ≡ got value s₇ → none_left ≡ eqb (length s₇) 0 → none_left ≡ true
+    → read_back (record { kind = kind; marks = m; p = p; a = a; x = x; y = y; place = place; value = value }) start ≡ leaving start (read_in_form kinds (2 ^ 21) s)
+unfolding read_in_form
+whole kinds {s₇ = s₇} {n = n} {kind = kind} e r₀ k r₁ r₂ r₃ r₄ r₅ r₆ r₇ z h =
+    let none : s₇ ≡ [] = no_bytes s₇ (eqb-true (length s₇) 0 (sym z ∙ h)) in
+    rw (← e, r₀, r₁, r₂, r₃, r₄, r₅, r₆, r₇, none, kind_known n kind k)
