@@ -1,5 +1,5 @@
--- A record put right after the bytes in use: the trail keeps its length, and the record stands at the end of the bytes in use. And a law of copying by
--- turns, which no function cites, since `records::copy` copies a record whole: one byte more of it is copied.
+-- A record put right after the bytes in use: the trail keeps its length, and the record stands at the end of the bytes in use. And the law of copying
+-- byte by byte, by which the crate moving puts the bytes of a record.
 -- Assumes nothing.
 use Prim.Native.Nat.{ℕ, ◌+◌, ◌<◌, ◌≤◌}
 use mathlib.Core.Path.{◌≡◌, ◌∙◌}
@@ -21,7 +21,7 @@ put_in_use trail used r h =
     rw (← append_assoc (take used trail) r (drop (used + length r) trail))
     (take_at (take used trail ++ r) (drop (used + length r) trail) (used + length r) (simp (length-append, length-take) (omega arith)))
 
--- ---- a copy by turns
+-- ---- a copy, byte by byte
 
 -- Of the n bytes of b, the first i are copied: the trail is the old one with these pasted in.
 pub record Copying (old : List ℕ) (used : ℕ) (b : List ℕ) (n : ℕ) (new : List ℕ) (i : ℕ) : Type 0 where
