@@ -14,12 +14,16 @@ use borrow.Author.Tests.{lt-ltb, eq-eqb, ne_eqb, leb-true, leb-false, ltb-true, 
 use Rattle.std.specs.Prelude.{sum}
 use Rattle.std.proofs.lemmas.List.Sums.{sum_by-cons}
 use Rattle.text.specs.Digits.{hex}
-use Rattle.intel_hex.specs.Layout.{pairs, record_line, data_bytes}
+use Rattle.intel_hex.specs.Layout.{pairs, record_line, word_bytes, data_bytes}
 use Rattle.intel_hex.specs.Exported.{upper_line, end_line, upper_before, row_words, row_count, row, rows, exported, blocks, exported_length}
 
 pub pairs_append : (a b : List ℕ) → pairs (a ++ b) ≡ pairs a ++ pairs b
 pairs_append [] b = refl
 pairs_append (x ∷ a) b = rw (pairs_append a b)
+
+pub data_append : (a b : List ℕ) → data_bytes (a ++ b) ≡ data_bytes a ++ data_bytes b
+data_append [] b = refl
+data_append (w ∷ a) b = rw (data_append a b)
 
 pub sum_small : (bs : List ℕ) → ((i : ℕ) → get_or bs i 0 < 256) → sum bs ≤ 255 * length bs
 sum_small [] h = omega arith
@@ -28,6 +32,9 @@ sum_small (b ∷ bs) h = omega (arith, sum_by-cons (λ x. x) b bs, h 0, sum_smal
 pub pairs_more : (bs : List ℕ) (i : ℕ) → i < length bs → pairs (take (i + 1) bs) ≡ pairs (take i bs) ++ hex 2 (get_or bs i 0)
 unfolding hex
 pairs_more bs i h = rw (add-one, take-suc bs i 0 h, pairs_append)
+
+pub data_more : (words : List ℕ) (i : ℕ) → i < length words → data_bytes (take (i + 1) words) ≡ data_bytes (take i words) ++ word_bytes (get_or words i 0)
+data_more words i h = rw (add-one, take-suc words i 0 h, data_append)
 
 pub pairs_length : (bytes : List ℕ) → length (pairs bytes) ≡ 2 * length bytes
 pairs_length [] = refl

@@ -23,83 +23,83 @@ fn sum_of(bytes: &[u8]) -> usize
     bytes.iter().map(|byte| *byte as usize).sum()
 }
 
-// Each byte goes to the line as two digits.
-fn push_pairs(line: &mut Text<44>, bytes: &[u8])
-    requires { length line.old + 2 * length bytes.now ≤ 44 }
-    ensures { line.new ≡ line.old ++ pairs bytes.now }
+// The output is lent, and 11 MB where main is full, so what goes into it is put at a place, and each function that puts something there answers the
+// place after it. The digits of a line go there two by two: a line made as a text first and then copied took a third longer, and a call on one word twice
+// as long.
+
+// Each byte, as two digits.
+fn put_pairs(out: &mut [u8], at: usize, bytes: &[u8]) -> usize
+    requires { at + 2 * length bytes.now ≤ length out.old }
+    ensures { Placed at (pairs bytes.now) out.old result out.new }
 {
+    let mut next = at;
     for byte in bytes {
-        line.push_hex(2, *byte as usize);
+        let mut pair: Text<2> = Text::new();
+        pair.push_hex(2, *byte as usize);
+        next = put_text(out, next, pair.as_bytes());
     }
+    next
 }
 
 // The line of a record of at most sixteen data bytes.
-fn record_line(record_type: u8, address: u16, bytes: &[u8]) -> Text<44>
-    requires { length bytes.now ≤ 16 }
-    ensures { result ≡ record_line record_type address bytes.now }
+fn put_line(out: &mut [u8], at: usize, record_type: u8, address: u16, bytes: &[u8]) -> usize
+    requires { (at + (12 + 2 * length bytes.now) ≤ length out.old) × (length bytes.now ≤ 16) }
+    ensures { Placed at (record_line record_type address bytes.now) out.old result out.new }
 {
     let [high, low] = address.to_be_bytes();
     let head = [bytes.len() as u8, high, low, record_type];
     let total = sum_of(&head) + sum_of(bytes);
-    let mut line = Text::new();
-    line.push(b':');
-    push_pairs(&mut line, &head);
-    push_pairs(&mut line, bytes);
-    push_pairs(&mut line, &[((256 - total % 256) % 256) as u8]);
-    line.push(b'\n');
-    line
+    let mut next = put_text(out, at, b":");
+    next = put_pairs(out, next, &head);
+    next = put_pairs(out, next, bytes);
+    next = put_pairs(out, next, &[((256 - total % 256) % 256) as u8]);
+    put_text(out, next, b"\n")
 }
 
-// The bytes of up to four words.
-fn data_bytes(words: &[u32]) -> Text<16>
-    requires { length words.now ≤ 4 }
-    ensures { result ≡ data_bytes words.now }
+// The bytes of words go to the text.
+fn push_words(bytes: &mut Text<16>, words: &[u32])
+    requires { length bytes.old + 4 * length words.now ≤ 16 }
+    ensures { bytes.new ≡ bytes.old ++ data_bytes words.now }
 {
-    let mut bytes = Text::new();
     for word in words {
         bytes.push_text(&word.to_be_bytes());
     }
-    bytes
 }
 
 // The type 04 record before row i, where a further 64 KiB starts.
-#[tactic(auto, unfolding(crate::specs::Exported::upper_before, crate::specs::Exported::upper_line))]
-fn upper_before(i: usize) -> Text<44>
-    requires { i < 262144 }
-    ensures { result ≡ upper_before i }
+fn put_upper_before(out: &mut [u8], at: usize, i: usize) -> usize
+    requires { (at + length (upper_before i) ≤ length out.old) × (i < 262144) }
+    ensures { Placed at (upper_before i) out.old result out.new }
 {
     if i == 0 || i % 4096 != 0 {
-        return Text::new();
+        return at;
     }
     let upper = (i / 4096) as u16;
-    record_line(4, 0, &upper.to_be_bytes())
+    put_line(out, at, 4, 0, &upper.to_be_bytes())
 }
 
 // Row i of main: what stands before it, then its words, which the last row may have fewer than four of.
-#[tactic(auto, using(crate::proofs::Lengths::upper_before_small, crate::proofs::Lengths::row_words_at, crate::proofs::Lengths::line_length, crate::proofs::Lengths::data_length))]
-fn row(main: &[u32], i: usize) -> Text<60>
-    requires { (4 * i ≤ length main.now) × (i < 262144) }
-    ensures { result ≡ row i main.now }
+fn put_row(out: &mut [u8], at: usize, main: &[u32], i: usize) -> usize
+    requires { (at + length (row i main.now) ≤ length out.old) × (4 * i ≤ length main.now) × (i < 262144) }
+    ensures { Placed at (row i main.now) out.old result out.new }
 {
+    let next = put_upper_before(out, at, i);
     let last = main.len().min(4 * i + 4);
-    let bytes = data_bytes(&main[4 * i..last]);
-    let mut lines = Text::new();
-    lines.push_text(upper_before(i).as_bytes());
-    lines.push_text(record_line(0, (16 * i % KIB_64) as u16, bytes.as_bytes()).as_bytes());
-    lines
+    let mut bytes = Text::new();
+    push_words(&mut bytes, &main[4 * i..last]);
+    put_line(out, next, 0, (16 * i % KIB_64) as u16, bytes.as_bytes())
 }
 
-// The whole export, into an output that has room for it. The output is lent, and 11 MB where main is full, so its texts are put one after the other,
-// each at the place after the one before.
+// The whole export, into an output that has room for it.
 fn put_all(out: &mut [u8], main: &[u32]) -> usize
     requires { (length (exported main.now) ≤ length out.old) × (length main.now ≤ 1048576) }
     ensures { Placed 0 (exported main.now) out.old result out.new }
 {
-    let mut at = put_text(out, 0, record_line(4, 0, &[0, 0]).as_bytes());
+    let mut at = put_line(out, 0, 4, 0, &[0, 0]);
     for i in 0..main.len().div_ceil(4) {
-        at = put_text(out, at, row(main, i).as_bytes());
+        at = put_row(out, at, main, i);
     }
-    put_text(out, at, record_line(1, 0, &[]).as_bytes())
+    put_line(out, at, 1, 0, &[])
 }
 
 // The length of an export of n words.
