@@ -96,10 +96,10 @@ refused_writes_nothing i =
 
 pub refused_changes_nothing : {main text after : List ℕ} {used : ℕ} {refusal : ImportRefusal}
     → Imports main text (Err refusal) after
-    → (after ≡ main) × (used_after (Err refusal) used ≡ used)
-refused_changes_nothing i =
+    → (after ≡ main) × (used_after (import_answer (length main) text) used ≡ used)
+refused_changes_nothing {used = used} i =
     let a = sym i.answer_is in
-    (i.main_is ∙ rw a, refl)
+    (i.main_is ∙ rw a, sym (i.used_is used))
 
 pub accepted_starts_again : {main text after : List ℕ} {count : ℕ} → Imports main text (Ok count) after → count ≡ 0
 unfolding import_answer

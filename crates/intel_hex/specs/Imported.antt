@@ -105,7 +105,8 @@ abbrev pub used_after : Result ℕ ImportRefusal → ℕ → ℕ
 used_after (Ok count) used = count
 used_after (Err refusal) used = used
 
--- What importing a text into main answers, and main after it.
+-- What importing a text into main answers, the count of trail bytes in use that it leaves the caller, whatever that was, and main after it.
 pub record Imports (main text : List ℕ) (r : Result ℕ ImportRefusal) (after : List ℕ) : Type 0 where
   pub answer_is : r ≡ import_answer (length main) text
+  pub used_is : (used : ℕ) → used_after r used ≡ used_after (import_answer (length main) text) used
   pub main_is : after ≡ main_after (import_answer (length main) text) text main
