@@ -9,10 +9,10 @@ use native.Mathlib.Nat.{add-zero, zero-add, suc-add}
 use native.Mathlib.Numerals.{add-one}
 use lib.Dec.{leb, ltb, eqb}
 use lib.ListN.{length, get_or, take, drop, length-append, length-drop}
-use lib.Seq.{take-suc, take_all, length-take-le}
+use lib.Seq.{take-suc, get_or-drop, take_all, length-take-le}
 use borrow.Author.Tests.{lt-ltb, eq-eqb, ne_eqb, leb-true, leb-false, ltb-true, ltb-false, eqb-true, eqb-false}
 use Rattle.std.specs.Prelude.{sum}
-use Rattle.std.proofs.lemmas.List.Sums.{sum_by-cons}
+use Rattle.std.proofs.lemmas.List.Sums.{sum_by-cons, sum_by-append}
 use Rattle.text.specs.Digits.{hex}
 use Rattle.intel_hex.specs.Layout.{pairs, record_line, word_bytes, data_bytes}
 use Rattle.intel_hex.specs.Exported.{upper_line, end_line, upper_before, row_words, row_count, row, rows, exported, blocks, exported_length}
@@ -43,6 +43,22 @@ pairs_length (b ∷ bytes) = omega (arith, pairs_length bytes)
 pub data_length : (words : List ℕ) → length (data_bytes words) ≡ 4 * length words
 data_length [] = refl
 data_length (w ∷ words) = omega (arith, data_length words)
+
+module _ (main : List ℕ) (first i : ℕ) (more : first + i < length main) where
+  one_more : take (i + 1) (drop first main) ≡ take i (drop first main) ++ (get_or main (first + i) 0 ∷ [])
+  one_more =
+      let h : i < length (drop first main) = rw length-drop (omega arith) in
+      rw (add-one, take-suc (drop first main) i 0 h, get_or-drop)
+
+  pub one_word_more :
+      pairs (data_bytes (take (i + 1) (drop first main)))
+      ≡ pairs (data_bytes (take i (drop first main))) ++ pairs (word_bytes (get_or main (first + i) 0))
+  one_word_more = rw (one_more, data_append, pairs_append)
+
+  pub one_sum_more :
+      sum (data_bytes (take (i + 1) (drop first main)))
+      ≡ sum (data_bytes (take i (drop first main))) + sum (word_bytes (get_or main (first + i) 0))
+  one_sum_more = rw (one_more, data_append, sum_by-append (λ (x : ℕ). x))
 
 pub line_length : (type address : ℕ) (bytes : List ℕ) → length (record_line type address bytes) ≡ 12 + 2 * length bytes
 unfolding record_line

@@ -1,5 +1,6 @@
 -- The laws of this crate's definitions.
 pub mod Bytes
+pub mod Exits
 pub mod Fields
 pub mod FirstBad
 pub mod Lengths

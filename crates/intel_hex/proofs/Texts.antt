@@ -43,6 +43,11 @@ each_word signs count i h e =
     let e' : all_bytes (bytes (4 * (i + (count - i))) signs) ≡ true = ap (λ (m : ℕ). all_bytes (bytes (4 * m) signs)) (sym n) ∙ e in
     first_word (drop (8 * i) signs) (count - i) (omega arith) (later_words signs i (count - i) e')
 
+-- The first of the words has its eight digits within the text.
+pub eight_within : (text : List ℕ) (at k : ℕ) → 0 < k → all_bytes (bytes (4 * k) (drop at text)) ≡ true → at + 8 ≤ length text
+eight_within text at k h e =
+    omega (arith, byte_within text (at + 6) (rw (drop-drop 6 at text) at (each_byte 4 3 (drop at text) (first_word (drop at text) k h e) (omega arith))))
+
 pub word_within : (signs : List ℕ) (count i : ℕ) → i < count → all_bytes (bytes (4 * count) signs) ≡ true → 8 * i ≤ length signs
 word_within signs count i h e =
     let m : 2 * (4 * i) ≡ 8 * i = omega arith in
@@ -296,6 +301,11 @@ module _ (room base : ℕ) (t : List ℕ) (v : verdict (text_of room base t) ≡
       go false e =
           let q : turn_of room base (line_of t) ≡ None = rw e in
           not_good (text_bad room base t q) v
+
+  -- So it is what its type says.
+  pub good_layout : layout_of t ≡ line_of t
+  unfolding line_of
+  good_layout = rw good_formed
 
   pub good_line : {line : Line} {size : ℕ} → (well_formed t ≡ true → ◌≡◌ {A = Option (Line × ℕ)} (Some (line, size)) (with_size t (layout_of t)))
       → (line_of t ≡ Some line) × (size ≡ size_of t)
