@@ -1,8 +1,21 @@
-use mathlib.Core.List.{append_assoc}
+-- The four bytes of a word more, the high one first.
+-- Assumes nothing.
+use Prim.Native.Nat.{ℕ}
+use mathlib.Core.Path.{◌≡◌}
+use mathlib.Core.List.{[], ◌∷◌, append_assoc}
+use native.Mathlib.Omega.{arith}
+use lib.ListN.{get_or}
+use Rattle.intel_hex.specs.Layout.{word_bytes}
 use Rattle.intel_hex.proofs.Lengths.{data_more}
 use Rattle.intel_hex.proofs.exporting.push_words.Goals as goal
+
+four : {a b c d p q r s : ℕ} → a ≡ p → b ≡ q → c ≡ r → d ≡ s → a ∷ b ∷ c ∷ d ∷ [] ≡ p ∷ q ∷ r ∷ s ∷ []
+four e f g h = rw (e, f, g, h)
 
 pub loop-word-preserved : goal.loop-word-preserved
 loop-word-preserved c =
     let l = c.loop-word in
-    rw (c.push_text.ensures, c.to_be_bytes.ensures, l.invariant, data_more c.args.words.now l.word-index c.loop-word-test.true, append_assoc)
+    let bytes : c.to_be_bytes.result ≡ word_bytes (get_or c.args.words.now l.word-index 0) =
+    rw c.to_be_bytes.ensures (four (omega arith) (omega arith) (omega arith) (omega arith))
+    in
+    rw (c.push_text.ensures, bytes, l.invariant, data_more c.args.words.now l.word-index c.loop-word-test.true, append_assoc)

@@ -13,7 +13,7 @@ pub returns-then-i-eq0 : goal.returns-then-i-eq0
 returns-then-i-eq0 c =
     elim c.then-i-eq0.branch [
       | then-i-eq0-via-then-i-eq0 w ↦ rw (no_upper c.args.i (omega arith)) (put_nothing c.args.at c.args.out.now)
-      | then-i-eq0-via-else-i-eq0+then-i-ne0 w ↦ rw (no_upper_within c.args.i w.if-i-ne0.true) (put_nothing c.args.at c.args.out.now)
+      | then-i-eq0-via-else-i-eq0+then-i-ne0 w ↦ rw (no_upper_within c.args.i (λ z. omega (arith, z, w.if-i-ne0.true))) (put_nothing c.args.at c.args.out.now)
     ]
 
 pub put_line-requires : goal.put_line-requires
