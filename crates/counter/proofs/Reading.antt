@@ -8,11 +8,11 @@ use mathlib.Core.List.{List, [], ◌∷◌, ◌++◌}
 use native.Mathlib.Omega.{arith}
 use native.Mathlib.Numerals.{add-one, sub-one}
 use lib.Dec.{ltb}
-use lib.ListN.{length, get_or, take, drop, set, length-drop}
+use lib.ListN.{length, get_or, take, drop, set, length-append, length-drop}
 use lib.Seq.{drop-cons, take-suc, append_snoc, set_at, take_all, length-take-le}
 use borrow.Author.Tests.{lt-ltb, le-ltb}
 use Rattle.text.specs.Digits.{digit_value}
-use Rattle.counter.specs.Routine.{line_after, first_line, Routine, then_lines, routine_of, answer, Loads}
+use Rattle.counter.specs.Routine.{line_after, first_line, Routine, then_lines, routine_of, answer, main_after, Loads}
 use Rattle.text.specs.declared.read.BadLine.{BadLine}
 
 module _ (text : List ℕ) (at k v : ℕ) (more : at < length text) where
@@ -97,6 +97,10 @@ abbrev pub after_lines : ℕ → Result ℕ BadLine → Result ℕ BadLine
 after_lines k (Ok n) = Ok (k + n)
 after_lines k (Err b) = bad (k + b.0)
 
+pub after_none : (r : Result ℕ BadLine) → r ≡ after_lines 0 r
+after_none (Ok n) = ap Ok (omega arith)
+after_none (Err b) = ap bad (omega arith)
+
 pub after_one : (k w : ℕ) (r : Routine) → after_lines k (answer (then_lines (Some w) r)) ≡ after_lines (k + 1) (answer r)
 after_one k w (Ok ws) = ap Ok (omega arith)
 after_one k w (Err n) = ap bad (omega arith)
@@ -109,6 +113,16 @@ words_in (Err n) = []
 pub good_text : (r : Routine) (n : ℕ) → answer r ≡ Ok n → (r ≡ Ok (words_in r)) × (length (words_in r) ≡ n)
 good_text (Ok ws) n e = (refl, cc)
 good_text (Err k) n e = clash (cc)
+
+pub good_main : (r : Routine) (n : ℕ) (main : List ℕ) → answer r ≡ Ok n → main_after r main ≡ words_in r ++ drop n main
+good_main (Ok ws) n main e =
+    let l : length ws ≡ n = cc in
+    rw l
+good_main (Err k) n main e = clash (cc)
+
+pub bad_main : (r : Routine) (b : BadLine) (main : List ℕ) → answer r ≡ Err b → main ≡ main_after r main
+bad_main (Ok ws) b main e = clash (cc)
+bad_main (Err k) b main e = refl
 
 -- One word more in main, after j of them.
 pub next_word : (ws main : List ℕ) (j : ℕ) → j < length ws → j < length main
@@ -145,6 +159,22 @@ words_fit room text [] e = omega arith
 words_fit room text (w ∷ ws) e =
     let f = first_word room text (w ∷ ws) e (omega arith) in
     omega (arith, f.2, words_fit (room - 1) (drop 9 text) ws f.1)
+
+-- The words loaded are within main. The two laws are what a part `&main[..n]` asks.
+module _ {text main after : List ℕ} {r : Result ℕ BadLine} {n : ℕ} (e : r ≡ Ok n) (loads : Loads text main r after) where
+  pub loaded_within : n ≤ length after
+  loaded_within =
+      let routine = routine_of (length main) text in
+      let a : answer routine ≡ Ok n = sym loads.answer_is ∙ e in
+      omega (
+        arith,
+        (good_text routine n a).1,
+        ap length (loads.main_is ∙ good_main routine n main a),
+        length-append (words_in routine) (drop n main),
+      )
+
+  pub loaded_count : n ≡ length (take n after)
+  loaded_count = sym (length-take-le n after loaded_within)
 
 -- The first bad line is at most the one after those that main has room for.
 bad_within : (room : ℕ) (text : List ℕ) (n : ℕ) → routine_of room text ≡ Err n → n ≤ suc room
