@@ -1,5 +1,5 @@
 // Export (document 02, W4): sixteen data bytes a record, a type 04 record at the start and at each 64 KiB, one end record.
-ghost use Rattle.std.specs.Prelude.{◌+◌, ◌*◌, ◌≤◌, ◌<◌, ◌≡◌, ◌++◌, length, sum};
+ghost use Rattle.std.specs.Prelude.{◌+◌, ◌*◌, ◌≤◌, ◌<◌, ◌≡◌, length, sum};
 ghost use Rattle.intel_hex.specs.Layout.{pairs, record_line, data_bytes};
 ghost use Rattle.intel_hex.specs.Exported.{upper_before, row, exported, exported_length, Exports};
 ghost use Rattle.text.specs.Placed.{Placed};
@@ -56,14 +56,16 @@ fn put_line(out: &mut [u8], at: usize, record_type: u8, address: u16, bytes: &[u
     put_text(out, next, b"\n")
 }
 
-// The bytes of words go to the text.
-fn push_words(bytes: &mut Text<16>, words: &[u32])
-    requires { length bytes.old + 4 * length words.now ≤ 16 }
-    ensures { bytes.new ≡ bytes.old ++ data_bytes words.now }
+// The bytes of words, from the start.
+fn put_words(out: &mut [u8], words: &[u32]) -> usize
+    requires { 4 * length words.now ≤ length out.old }
+    ensures { Placed 0 (data_bytes words.now) out.old result out.new }
 {
+    let mut next: usize = 0;
     for word in words {
-        bytes.push_text(&word.to_be_bytes());
+        next = put_text(out, next, &word.to_be_bytes());
     }
+    next
 }
 
 // The type 04 record before row i, where a further 64 KiB starts.
@@ -85,9 +87,9 @@ fn put_row(out: &mut [u8], at: usize, main: &[u32], i: usize) -> usize
 {
     let next = put_upper_before(out, at, i);
     let last = main.len().min(4 * i + 4);
-    let mut bytes = Text::new();
-    push_words(&mut bytes, &main[4 * i..last]);
-    put_line(out, next, 0, (16 * i % KIB_64) as u16, bytes.as_bytes())
+    let mut bytes = [0; 16];
+    let count = put_words(&mut bytes, &main[4 * i..last]);
+    put_line(out, next, 0, (16 * i % KIB_64) as u16, &bytes[..count])
 }
 
 // The whole export, into an output that has room for it.
