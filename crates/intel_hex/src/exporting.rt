@@ -24,8 +24,8 @@ fn sum_of(bytes: &[u8]) -> usize
 }
 
 // The output is lent, and 11 MB where main is full, so what goes into it is put at a place, and each function that puts something there answers the
-// place after it. The digits of a line go there two by two: a line made as a text first and then copied took a third longer, and a call on one word twice
-// as long.
+// place after it. The digits of a line go there two by two: a line that was made as a text first, and then copied from text to text, took more than
+// twice as long.
 
 // Each byte, as two digits.
 fn put_pairs(out: &mut [u8], at: usize, bytes: &[u8]) -> usize
