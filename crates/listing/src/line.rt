@@ -64,20 +64,40 @@ fn push_fields(line: &mut Text<24>, form: Form, w: u32)
     ensures { line.new ≡ line.old ++ spaced (fields_by form w (fields_of w)) }
 {
     let f = Fields::of_word(w);
-    let destination = names::destination(f.dsf);
-    let function = names::function(f.fsf);
-    let register = names::register(f.rsf);
-    let operand = operand_of(f);
     match form {
         Form::Word => push_spaced(line, &[b"WORD", digits_of(w).as_bytes()]),
         Form::Comparison => {
             let comparison = names::comparison(f.fsf);
-            push_spaced(line, &[b"CMP", comparison, register, operand.as_bytes()])
+            let register = names::register(f.rsf);
+            push_spaced(
+                line,
+                &[b"CMP", comparison, register, operand_of(f).as_bytes()],
+            )
         }
-        Form::Write => push_spaced(line, &[destination, register, operand.as_bytes()]),
-        Form::Shift => push_spaced(line, &[destination, names::shift(f.msf), register]),
-        Form::Unary => push_spaced(line, &[destination, function, operand.as_bytes()]),
-        Form::Binary => push_spaced(line, &[destination, function, register, operand.as_bytes()]),
+        Form::Write => {
+            let destination = names::destination(f.dsf);
+            let register = names::register(f.rsf);
+            push_spaced(line, &[destination, register, operand_of(f).as_bytes()])
+        }
+        Form::Shift => {
+            let destination = names::destination(f.dsf);
+            let register = names::register(f.rsf);
+            push_spaced(line, &[destination, names::shift(f.msf), register])
+        }
+        Form::Unary => {
+            let destination = names::destination(f.dsf);
+            let function = names::function(f.fsf);
+            push_spaced(line, &[destination, function, operand_of(f).as_bytes()])
+        }
+        Form::Binary => {
+            let destination = names::destination(f.dsf);
+            let function = names::function(f.fsf);
+            let register = names::register(f.rsf);
+            push_spaced(
+                line,
+                &[destination, function, register, operand_of(f).as_bytes()],
+            )
+        }
     }
 }
 

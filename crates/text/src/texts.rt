@@ -54,10 +54,10 @@ impl<const N: usize> Text<N> {
         requires { length self.old + length text.now ≤ N }
         ensures { self.new ≡ self.old ++ text.now }
     {
-        let next = self.used + text.len();
-        let bytes = &mut self.bytes[..];
-        bytes[self.used..next].copy_from_slice(text);
-        self.used = next;
+        for (i, &byte) in text.iter().enumerate() {
+            self.bytes[self.used + i] = byte;
+        }
+        self.used += text.len();
     }
 
     // The number in decimal, with no leading zero.
