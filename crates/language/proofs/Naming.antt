@@ -1,14 +1,14 @@
 -- The sixteen names of comparisons, as the code lists them, are those of the definition.
 -- Assumes nothing.
 use Prim.Native.Nat.{ℕ, zero, suc, ◌≤◌}
-use mathlib.Core.Path.{◌≡◌, refl}
+use mathlib.Core.Path.{◌≡◌, refl, sym}
 use mathlib.Core.List.{[]}
 use native.Mathlib.Omega.{arith}
 use lib.ListN.{get_or}
 use borrow.Author.Tests.{lt-leb}
 use Rattle.language.specs.Names.{names, split, comparison_name}
 
-no_comparison : (f : ℕ) → 16 ≤ f → [] ≡ comparison_name f
+pub no_comparison : (f : ℕ) → 16 ≤ f → comparison_name f ≡ []
 unfolding comparison_name
 no_comparison f h = rw (lt-leb f 7 (omega arith), lt-leb f 15 h)
 
@@ -31,4 +31,4 @@ comparisons (suc (suc (suc (suc (suc (suc (suc (suc (suc (suc (suc (suc (suc zer
 comparisons (suc (suc (suc (suc (suc (suc (suc (suc (suc (suc (suc (suc (suc (suc zero)))))))))))))) = refl
 comparisons (suc (suc (suc (suc (suc (suc (suc (suc (suc (suc (suc (suc (suc (suc (suc zero))))))))))))))) = refl
 comparisons (suc (suc (suc (suc (suc (suc (suc (suc (suc (suc (suc (suc (suc (suc (suc (suc f)))))))))))))))) =
-    no_comparison (suc (suc (suc (suc (suc (suc (suc (suc (suc (suc (suc (suc (suc (suc (suc (suc f)))))))))))))))) (omega arith)
+    sym (no_comparison (suc (suc (suc (suc (suc (suc (suc (suc (suc (suc (suc (suc (suc (suc (suc (suc f)))))))))))))))) (omega arith))

@@ -51,7 +51,6 @@ pub fn shift(msf: u32) -> &'static [u8]
     named(&SHIFTS, msf)
 }
 
-#[tactic(auto, using(crate::proofs::Naming::comparisons), unfolding(crate::specs::Names::split))]
 pub fn comparison(fsf: u32) -> &'static [u8]
     ensures { result.now ≡ comparison_name fsf }
 {
