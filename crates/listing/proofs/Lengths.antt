@@ -1,11 +1,11 @@
 -- How long the fields of a line are. A line has 14 to 24 bytes, its line feed counted (`line_bounds`), and a listing of n words at most 24 n.
 -- Assumes nothing.
 use Prim.Native.Nat.{ℕ, suc, ◌+◌, ◌≤◌, ◌<◌}
-use mathlib.Core.Path.{◌≡◌, refl}
-use mathlib.Core.Bool.{Bool, true, false, ◌&&◌}
+use mathlib.Core.Path.{◌≡◌}
+use mathlib.Core.Bool.{◌&&◌}
 use mathlib.Core.List.{List, [], ◌∷◌, ◌++◌}
 use native.Mathlib.Omega.{arith}
-use lib.Dec.{T, eqb, leb, leb→le}
+use lib.Dec.{T, leb, leb→le}
 use lib.ListN.{length, length-append}
 use Rattle.text.specs.Text.{text}
 use Rattle.text.specs.Digits.{hex}
@@ -16,11 +16,13 @@ use Rattle.instruction.specs.Fields.{fields_of}
 use Rattle.language.specs.declared.forms.Form.{Form}
 use Rattle.language.specs.declared.forms.Form.TheVariants.{Word, Comparison, Write, Shift, Unary, Binary}
 use Rattle.language.specs.Names.{split, destination_name, function_name, shift_name, comparison_name, register_name}
-use Rattle.language.specs.Line.{operand, field, word_fields, fields, fields_by, form, spaced, line}
+use Rattle.language.specs.Line.{operand, word_fields, fields, fields_by, form, spaced, line}
 use Rattle.listing.specs.Listing.{lines, listing, most_bytes}
+use Rattle.listing.proofs.Operands.{operand_bounds}
+use Rattle.listing.proofs.Spacing.{spaced_length}
 use Rattle.language.proofs.Shapes.{Told, told}
 
-word_length : (w : ℕ) → length (spaced (word_fields w)) ≡ 14
+pub word_length : (w : ℕ) → length (spaced (word_fields w)) ≡ 14
 unfolding spaced
 word_length w = simp (length-append, hex_length)
 
@@ -48,47 +50,31 @@ bounded t low high n e k h =
       leb→le (length (t k)) high (both_right (leb low (length (t k))) (leb (length (t k)) high) p),
     )
 
-destination_bounds : (d : ℕ) → d < 8 → Within 1 3 (destination_name d)
+pub destination_bounds : (d : ℕ) → d < 8 → Within 1 3 (destination_name d)
 unfolding destination_name split
 destination_bounds d h = bounded destination_name 1 3 8 tt d h
 
-result_bounds : (d : ℕ) → d < 6 → Within 1 2 (destination_name d)
+pub result_bounds : (d : ℕ) → d < 6 → Within 1 2 (destination_name d)
 unfolding destination_name split
 result_bounds d h = bounded destination_name 1 2 6 tt d h
 
-function_bounds : (f : ℕ) → f < 12 → Within 2 4 (function_name f)
+pub function_bounds : (f : ℕ) → f < 12 → Within 2 4 (function_name f)
 unfolding function_name split
 function_bounds f h = bounded function_name 2 4 12 tt f h
 
-shift_bounds : (m : ℕ) → m < 4 → Within 3 4 (shift_name m)
+pub shift_bounds : (m : ℕ) → m < 4 → Within 3 4 (shift_name m)
 unfolding shift_name split
 shift_bounds m h = bounded shift_name 3 4 4 tt m h
 
-comparison_bounds : (f : ℕ) → f < 16 → Within 2 3 (comparison_name f)
+pub comparison_bounds : (f : ℕ) → f < 16 → Within 2 3 (comparison_name f)
 unfolding comparison_name split
 comparison_bounds f h = bounded comparison_name 2 3 16 tt f h
 
-register_bounds : (r : ℕ) → r < 4 → Within 1 1 (register_name r)
+pub register_bounds : (r : ℕ) → r < 4 → Within 1 1 (register_name r)
 unfolding register_name split
 register_bounds r h = bounded register_name 1 1 4 tt r h
 
--- ---- operands
-
-operand_bounds : (m a : ℕ) → Within 5 7 (operand m a)
-unfolding operand
-operand_bounds m a = go (eqb m 0) (eqb m 1) (eqb m 2) refl refl refl
-  where
-    go : (x y z : Bool) → eqb m 0 ≡ x → eqb m 1 ≡ y → eqb m 2 ≡ z → Within 5 7 (operand m a)
-    go true y z e f g = rw e (simp hex_length (omega arith, omega arith))
-    go false true z e f g = rw (e, f) (simp hex_length (omega arith, omega arith))
-    go false false true e f g = rw (e, f, g) (simp (length-append, hex_length) (omega arith, omega arith))
-    go false false false e f g = rw (e, f, g) (simp (length-append, hex_length) (omega arith, omega arith))
-
 -- ---- the line
-
-spaced_length : (t : List ℕ) (ts : List (List ℕ)) → length (spaced (t ∷ ts)) ≡ suc (length t) + length (spaced ts)
-unfolding spaced
-spaced_length t ts = length-append (field t) (spaced ts)
 
 three : (a b c : List ℕ) → length (spaced (a ∷ b ∷ c ∷ [])) ≡ length a + length b + length c + 3
 unfolding spaced

@@ -1,6 +1,6 @@
 -- Fields put one after the other, each after a blank, are the fields of the line.
 -- Assumes nothing.
-use Rattle.std.specs.Prelude.{ℕ, ◌+◌, ◌<◌, ◌≤◌, ◌≡◌, List, [], ◌∷◌, ◌++◌, length, map, drop, slice_index_or}
+use Rattle.std.specs.Prelude.{ℕ, suc, ◌+◌, ◌<◌, ◌≤◌, ◌≡◌, List, [], ◌∷◌, ◌++◌, length, map, drop, slice_index_or}
 use Rattle.std.proofs.Common.{Bor, arith, ap, length-append}
 use Rattle.std.proofs.lemmas.Grind.{common_steps}
 use native.Mathlib.Numerals.{add-one}
@@ -8,6 +8,10 @@ use Rattle.std.proofs.Math.Seq.{drop-cons}
 use Rattle.std.proofs.Math.ListN.{drop_of_length-le}
 use mathlib.Core.List.{append-nil}
 use Rattle.language.specs.Line.{field, spaced}
+
+pub spaced_length : (t : List ℕ) (ts : List (List ℕ)) → length (spaced (t ∷ ts)) ≡ suc (length t) + length (spaced ts)
+unfolding spaced
+spaced_length t ts = length-append (field t) (spaced ts)
 
 -- What a read past the last field gives.
 abbrev none : Bor (List ℕ)

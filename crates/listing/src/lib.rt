@@ -5,3 +5,4 @@ mod line;
 mod store;
 
 pub use store::{ListRefusal, line_of_word, list};
+pub use text::Text;

@@ -50,7 +50,7 @@ fn put_listing(table: &ClassTable, main: &[u32], out: &mut [u8])
 }
 
 // Lists main from address 0 into the output, and answers how many bytes the listing has. A refused call writes no byte, and bytes past the listing stay.
-#[tactic(auto, using(crate::proofs::Answers::store_too_long, crate::proofs::Answers::output_too_short))]
+#[tactic(auto, using(crate::proofs::Answers::store_too_long))]
 pub fn list(main: &[u32], out: &mut [u8]) -> Result<usize, ListRefusal>
     ensures { Lists main.now out.old result out.new }
 {
