@@ -2,7 +2,7 @@
 ghost use Rattle.std.specs.Prelude.{ℕ, ◌+◌, ◌≤◌, ◌≡◌, ◌++◌, length, map};
 ghost use Rattle.text.specs.Digits.{hex};
 ghost use Rattle.instruction.specs.Fields.{fields_of};
-ghost use Rattle.language.specs.Line.{operand, fields_by, spaced, line};
+ghost use Rattle.language.specs.Line.{operand, field, fields_by, spaced, line};
 
 use instruction::{ClassTable, Fields};
 use language::forms::{Form, form_of};
@@ -35,17 +35,16 @@ fn signs(msf: u32) -> (&'static [u8], &'static [u8])
     }
 }
 
-// An operand.
-#[tactic(auto, using(text::proofs::Digits::hex_length))]
-fn operand_of(f: Fields) -> Text<7>
-    ensures { result ≡ operand f.msf f.addr }
+// An operand after a blank.
+fn push_operand(line: &mut Text<24>, f: Fields)
+    requires { length line.old + length (field (operand f.msf f.addr)) ≤ 24 }
+    ensures { line.new ≡ line.old ++ field (operand f.msf f.addr) }
 {
     let (before, after) = signs(f.msf);
-    let mut operand = Text::new();
-    operand.push_text(before);
-    operand.push_hex(5, f.addr as usize);
-    operand.push_text(after);
-    operand
+    line.push(b' ');
+    line.push_text(before);
+    line.push_hex(5, f.addr as usize);
+    line.push_text(after);
 }
 
 // All 32 bits of a word.
@@ -58,7 +57,7 @@ fn digits_of(w: u32) -> Text<8>
 }
 
 // The fields of a word of a form, each after a blank.
-#[tactic(auto, using(instruction::proofs::FieldsOf::fields_are), unfolding(language::specs::Line::fields_by))]
+#[tactic(auto, using(instruction::proofs::FieldsOf::fields_are), unfolding(language::specs::Line::fields_by, language::specs::Line::spaced))]
 fn push_fields(line: &mut Text<24>, form: Form, w: u32)
     requires { length line.old + length (spaced (fields_by form w (fields_of w))) ≤ 24 }
     ensures { line.new ≡ line.old ++ spaced (fields_by form w (fields_of w)) }
@@ -68,35 +67,27 @@ fn push_fields(line: &mut Text<24>, form: Form, w: u32)
         Form::Word => push_spaced(line, &[b"WORD", digits_of(w).as_bytes()]),
         Form::Comparison => {
             let comparison = names::comparison(f.fsf);
-            let register = names::register(f.rsf);
-            push_spaced(
-                line,
-                &[b"CMP", comparison, register, operand_of(f).as_bytes()],
-            )
+            push_spaced(line, &[b"CMP", comparison, names::register(f.rsf)]);
+            push_operand(line, f);
         }
         Form::Write => {
-            let destination = names::destination(f.dsf);
-            let register = names::register(f.rsf);
-            push_spaced(line, &[destination, register, operand_of(f).as_bytes()])
+            push_spaced(line, &[names::destination(f.dsf), names::register(f.rsf)]);
+            push_operand(line, f);
         }
         Form::Shift => {
             let destination = names::destination(f.dsf);
-            let register = names::register(f.rsf);
-            push_spaced(line, &[destination, names::shift(f.msf), register])
+            let shift = names::shift(f.msf);
+            push_spaced(line, &[destination, shift, names::register(f.rsf)]);
         }
         Form::Unary => {
-            let destination = names::destination(f.dsf);
-            let function = names::function(f.fsf);
-            push_spaced(line, &[destination, function, operand_of(f).as_bytes()])
+            push_spaced(line, &[names::destination(f.dsf), names::function(f.fsf)]);
+            push_operand(line, f);
         }
         Form::Binary => {
             let destination = names::destination(f.dsf);
             let function = names::function(f.fsf);
-            let register = names::register(f.rsf);
-            push_spaced(
-                line,
-                &[destination, function, register, operand_of(f).as_bytes()],
-            )
+            push_spaced(line, &[destination, function, names::register(f.rsf)]);
+            push_operand(line, f);
         }
     }
 }
